@@ -1,0 +1,164 @@
+// A basis of vectors in reduced row echelon form, in rows that the caller lends. It is the same text for each coding.
+ghost use mathlib.Core.Path.{_≡_};
+ghost use mathlib.Core.Logic.{_⊎_};
+ghost use Prim.Native.Nat.{_+_, _*_, _%_, _<_, _≤_};
+ghost use lib.ListN.{length};
+ghost use Rattle.std.specs.Results.{Cases};
+use coding::Coding;
+use coding::Refusal;
+
+// The first `rank` rows are the basis: their leads are 1 and rise, and the other rows have 0 at each lead.
+#[derive(Drop)]
+pub struct Basis<'a, C: Coding> {
+    rows: &'a mut [C],
+    length: usize,
+    rank: usize,
+}
+
+impl<'a, C: Coding> Basis<'a, C> {
+    // The basis of no vectors yet, of a length.
+    pub fn make(rows: &'a mut [C], length: usize) -> Result<Basis<'a, C>, Refusal> {
+        if length == 0 || length > C::width() {
+            return Err(Refusal::LengthOutOfRange);
+        }
+        if length > rows.len() {
+            return Err(Refusal::TooLittleRoom);
+        }
+        Ok(Basis {
+            rows,
+            length,
+            rank: 0,
+        })
+    }
+
+    // How many rows the vectors taken in come to.
+    pub fn rank(&self) -> usize {
+        self.rank
+    }
+
+    pub fn length(&self) -> usize {
+        self.length
+    }
+
+    // The row of a number, in the order of the leads.
+    pub fn row(&self, number: usize) -> Result<C, Refusal> {
+        if number >= self.rank {
+            return Err(Refusal::NumberOutOfRange);
+        }
+        row_of(self.rows, number)
+    }
+
+    // Takes a vector in: the rank grows unless the rows come to it already.
+    pub fn take_in(&mut self, vector: C) -> Result<(), Refusal> {
+        if reaches(vector, self.length) {
+            return Err(Refusal::BeyondLength);
+        }
+        let rank = self.rank;
+        if rank >= self.rows.len() {
+            return Err(Refusal::TooLittleRoom);
+        }
+        if insert(self.rows, rank, vector) {
+            self.rank = rank + 1;
+        }
+        Ok(())
+    }
+}
+
+fn row_of<C: Coding>(rows: &[C], number: usize) -> Result<C, Refusal> {
+    if number >= rows.len() {
+        return Err(Refusal::NumberOutOfRange);
+    }
+    Ok(rows[number])
+}
+
+// Whether a vector has a digit other than 0 at a place or above it.
+fn reaches<C: Coding>(vector: C, from: usize) -> bool {
+    for place in from..C::width() {
+        if digit_at(vector, place) != 0 {
+            return true;
+        }
+    }
+    false
+}
+
+// The digit at a place; past the coding's width each digit is 0.
+fn digit_at<C: Coding>(vector: C, place: usize) -> u8 {
+    match vector.digit(place) {
+        Ok(digit) => digit,
+        Err(_) => 0,
+    }
+}
+
+// A vector less a multiple of a row.
+fn less<C: Coding>(vector: C, digit: u8, row: C) -> C {
+    let mut left = vector;
+    for _ in 0..digit {
+        left = left.difference(row);
+    }
+    left
+}
+
+// A multiple of a row.
+fn scaled<C: Coding>(row: C, digit: u8) -> C {
+    let mut sum = C::zero();
+    for _ in 0..digit {
+        sum = sum.sum(row);
+    }
+    sum
+}
+
+// What a digit is multiplied by to give 1: modulo 3 that is the digit itself.
+fn inverse(digit: u8) -> u8
+    ensures { λ r. ⌜ ((digit ≡ 1) ⊎ (digit ≡ 2) → (r * digit) % 3 ≡ 1) ⌝ }
+{
+    digit
+}
+
+// Clears the place of a row's lead, which is 1, in a vector.
+fn cleared<C: Coding>(vector: C, row: C) -> C {
+    match row.lead() {
+        Some(lead) => less(vector, digit_at(vector, lead.place), row),
+        None => vector,
+    }
+}
+
+// What is left of a vector when the rows are taken off it.
+fn remainder<C: Coding>(rows: &[C], vector: C) -> C {
+    let mut left = vector;
+    for row in rows {
+        left = cleared(left, *row);
+    }
+    left
+}
+
+// How many rows come before a lead at a place.
+fn rows_before<C: Coding>(rows: &[C], place: usize) -> usize
+    ensures { λ r. ⌜ r ≤ length (now (rows .entry)) ⌝ }
+{
+    for (number, row) in rows.iter().enumerate() {
+        if let Some(lead) = row.lead()
+            && lead.place > place
+        {
+            return number;
+        }
+    }
+    rows.len()
+}
+
+// Takes a vector in among the first `rank` rows and says whether it became a row of its own.
+fn insert<C: Coding>(rows: &mut [C], rank: usize, vector: C) -> bool
+    requires { ⌜ rank < length (now rows) ⌝ }
+{
+    let left = remainder(&rows[0..rank], vector);
+    let Some(lead) = left.lead() else {
+        return false;
+    };
+    let new = scaled(left, inverse(lead.digit));
+    for number in 0..rank {
+        rows[number] = cleared(rows[number], new);
+    }
+    let at = rows_before(&rows[0..rank], lead.place);
+    rows[rank] = new;
+    rows[at..rank + 1].rotate_right(1);
+    true
+}
