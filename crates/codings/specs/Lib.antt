@@ -1,0 +1,2 @@
+pub mod TwoPlanes
+pub mod Plane

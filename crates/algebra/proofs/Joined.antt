@@ -1,0 +1,20 @@
+-- Laws of what is joined over the places below n.
+use mathlib.Core.Path.{_≡_, refl, ap₂}
+use Prim.Native.Nat.{ℕ, zero, suc, _+_, _<_}
+use native.Mathlib.Omega.{arith}
+use Rattle.algebra.specs.Vector.{joined, total}
+
+pub joined-same : {X : Type 0} (op : X → X → X) (start : X) (n : ℕ) (f g : ℕ → X) → ((k : ℕ) → k < n → f k ≡ g k) → joined op start n f ≡ joined op start n g
+unfolding joined
+joined-same op start zero f g h = refl
+joined-same op start (suc n) f g h = ap₂ op (joined-same op start n f g (λ k l. h k (omega arith))) (h n (omega arith))
+
+pub total-first : (n : ℕ) (f : ℕ → ℕ) → total (suc n) f ≡ f 0 + total n (λ k. f (suc k))
+unfolding joined
+total-first zero f = omega arith
+total-first (suc n) f = let i = total-first n f in omega (arith, i)
+
+pub total-add : (n : ℕ) (f g : ℕ → ℕ) → total n (λ k. f k + g k) ≡ total n f + total n g
+unfolding joined
+total-add zero f g = refl
+total-add (suc n) f g = let i = total-add n f g in omega (arith, i)

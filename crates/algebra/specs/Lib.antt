@@ -1,0 +1,5 @@
+pub mod Field
+pub mod Modulo
+pub mod Vector
+pub mod Successor
+pub mod Examples

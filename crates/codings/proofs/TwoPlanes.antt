@@ -1,0 +1,154 @@
+-- The word operations on two planes, over plain numbers: what each answer means, and that no place is left empty.
+use mathlib.Core.Path.{_≡_, refl, sym, ap, ap₂, _∙_}
+use mathlib.Core.Bool.{Bool, true, false, not, cond, _&&_, _||_}
+use Prim.Native.Nat.{ℕ, _+_, _-_, _*_, _%_, _^_, _<_, _≤_}
+use native.Mathlib.Omega.{arith}
+use lib.Bits.{bitAnd, bitOr, bitXor, or-lt, xor-lt}
+use lib.Count.{ones}
+use lib.Pow.{ones-sub-lt}
+use Rattle.words.specs.Bit.{bit, one, differs}
+use Rattle.words.proofs.Operations.{bit-and, bit-or, bit-xor, bit-not}
+use Rattle.words.proofs.Masks.{bit-zero, bit-ones}
+use Rattle.words.proofs.Lowest.{Lowest}
+use Rattle.words.proofs.Spelled.{word-same, word-bits}
+use Rattle.algebra.specs.Field.{value, of, minus}
+use Rattle.algebra.specs.Modulo.{F3}
+use Rattle.algebra.specs.Vector.{joined, differing, weight, distance, Leads}
+use Rattle.algebra.proofs.Digits.{same-digit, of-nil}
+use Rattle.algebra.proofs.Joined.{joined-same, total-add}
+use Rattle.algebra.proofs.Ternary.{of-add, of-neg, of-minus, of-mul, sum-value}
+use Rattle.codings.specs.TwoPlanes.{planeValue, digits, Full, spelled1, spelled2}
+use Rattle.codings.proofs.Places.{everywhere, laid-in, laid-out, laid-same, laid-by}
+use Rattle.codings.proofs.Counts.{ones-bits}
+
+module _ (w v1 v2 : ℕ) where
+  pub digits-out : (k : ℕ) → w ≤ k → digits w v1 v2 k ≡ F3 .nil
+  digits-out = laid-out w (λ k. planeValue (bit k v1) (bit k v2))
+
+  pub digits-in : (k : ℕ) → k < w → digits w v1 v2 k ≡ of F3 (planeValue (bit k v1) (bit k v2))
+  digits-in = laid-in w (λ k. planeValue (bit k v1) (bit k v2))
+
+  pub value-in : (k : ℕ) → k < w → value (digits w v1 v2 k) ≡ planeValue (bit k v1) (bit k v2)
+  value-in k h = ap value (digits-in k h) ∙ grind arith
+
+  -- full planes are the words that their digits are spelled by
+  pub full-spelled1 : Full w v1 v2 → v1 < 2 ^ w → v1 ≡ spelled1 w (digits w v1 v2)
+  full-spelled1 full fits = word-bits w v1 fits ∙ word-same w _ _ (λ k h. let f = full k h in let e = value-in k h in grind arith)
+
+  pub full-spelled2 : v2 < 2 ^ w → v2 ≡ spelled2 w (digits w v1 v2)
+  full-spelled2 fits = word-bits w v2 fits ∙ word-same w _ _ (λ k h. let e = value-in k h in grind arith)
+
+-- V1 as it is read from a first word: set wherever V2 has no bit
+module _ (w x v2 v1 : ℕ) (read : (k : ℕ) → k < w → bit k v1 ≡ (bit k x || not (bit k v2))) where
+  pub read-digits : (k : ℕ) → digits w v1 v2 k ≡ digits w x v2 k
+  read-digits = laid-same w _ _ (λ k h. let r = read k h in grind arith)
+
+  pub read-full : Full w v1 v2
+  read-full k h = let r = read k h in grind arith
+
+module _ (w v1 v2 : ℕ) (fv : Full w v1 v2) where
+  pub negation-digits : (k : ℕ) → digits w v2 v1 k ≡ F3 .neg (digits w v1 v2 k)
+  negation-digits = laid-by w (λ a b. F3 .neg a) (λ a b. 2 * a) (λ a b. of-neg a) refl _ (λ k. 0) _ (λ k h. let a = fv k h in grind arith)
+
+  pub negation-full : Full w v2 v1
+  negation-full k h = let a = fv k h in grind arith
+
+module _ (w v1 v2 w1 w2 : ℕ) (fv : Full w v1 v2) (fw : Full w w1 w2) where
+  pub sum-digits : (k : ℕ) → digits w (bitOr (bitXor v2 w2) (bitXor (bitXor v1 w1) v2)) (bitOr (bitXor v1 w1) (bitXor (bitXor v2 w2) v1)) k
+      ≡ F3 .add (digits w v1 v2 k) (digits w w1 w2 k)
+  sum-digits = laid-by w (F3 .add) _+_ of-add refl _ _ _ (λ k h. let a = fv k h in let b = fw k h in simp (bit-or, bit-xor) (grind arith))
+
+  pub sum-full : Full w (bitOr (bitXor v2 w2) (bitXor (bitXor v1 w1) v2)) (bitOr (bitXor v1 w1) (bitXor (bitXor v2 w2) v1))
+  sum-full k h = let a = fv k h in let b = fw k h in simp (bit-or, bit-xor) (grind arith)
+
+  pub product-digits : (k : ℕ) → digits w (bitAnd (bitOr v1 w1) (bitOr v2 w2)) (bitAnd (bitOr v1 w2) (bitOr v2 w1)) k
+      ≡ F3 .mul (digits w v1 v2 k) (digits w w1 w2 k)
+  product-digits = laid-by w (F3 .mul) _*_ of-mul refl _ _ _ (λ k h. let a = fv k h in let b = fw k h in simp (bit-and, bit-or) (grind arith))
+
+  pub product-full : Full w (bitAnd (bitOr v1 w1) (bitOr v2 w2)) (bitAnd (bitOr v1 w2) (bitOr v2 w1))
+  product-full k h = let a = fv k h in let b = fw k h in simp (bit-and, bit-or) (grind arith)
+
+  -- the sum and the difference from the words t1, t2, u1, u2 that they share
+  abbrev t1 : ℕ
+  t1 = bitXor (bitXor v1 v2) w1
+
+  abbrev t2 : ℕ
+  t2 = bitXor (bitXor v1 v2) w2
+
+  abbrev u1 : ℕ
+  u1 = bitXor (bitXor w1 w2) v1
+
+  abbrev u2 : ℕ
+  u2 = bitXor (bitXor w1 w2) v2
+
+  pub shared-sum-digits : (k : ℕ) → digits w (bitOr t1 u1) (bitOr t2 u2) k ≡ F3 .add (digits w v1 v2 k) (digits w w1 w2 k)
+  shared-sum-digits = laid-by w (F3 .add) _+_ of-add refl _ _ _ (λ k h. let a = fv k h in let b = fw k h in simp (bit-or, bit-xor) (grind arith))
+
+  pub shared-sum-full : Full w (bitOr t1 u1) (bitOr t2 u2)
+  shared-sum-full k h = let a = fv k h in let b = fw k h in simp (bit-or, bit-xor) (grind arith)
+
+  pub shared-difference-digits : (k : ℕ) → digits w (bitOr t2 u1) (bitOr t1 u2) k ≡ minus F3 (digits w v1 v2 k) (digits w w1 w2 k)
+  shared-difference-digits =
+      laid-by w (minus F3) (λ a b. a + 2 * b) of-minus refl _ _ _ (λ k h. let a = fv k h in let b = fw k h in simp (bit-or, bit-xor) (grind arith))
+
+  pub shared-difference-full : Full w (bitOr t2 u1) (bitOr t1 u2)
+  shared-difference-full k h = let a = fv k h in let b = fw k h in simp (bit-or, bit-xor) (grind arith)
+
+module _ (w v1 v2 w1 w2 : ℕ) where
+  pub distance-ones : v1 < 2 ^ w → v2 < 2 ^ w → w1 < 2 ^ w → w2 < 2 ^ w → Full w v1 v2 → Full w w1 w2
+      → ones (bitOr (bitXor v1 w1) (bitXor v2 w2)) ≡ distance F3 w (digits w v1 v2) (digits w w1 w2)
+  distance-ones f1 f2 g1 g2 fv fw =
+      ones-bits w _ (or-lt w _ _ (xor-lt w v1 w1 f1 g1) (xor-lt w v2 w2 f2 g2))
+      ∙ joined-same _+_ 0 w _ _ (λ k h.
+      let a = fv k h in let b = fw k h in let x = value-in w v1 v2 k h in let y = value-in w w1 w2 k h in
+      simp (bit-or, bit-xor) (grind arith))
+
+module _ (w v1 v2 : ℕ) (full : Full w v1 v2) (fits1 : v1 < 2 ^ w) (fits2 : v2 < 2 ^ w) where
+  -- the word of the places whose digit is not 0
+  abbrev some : ℕ
+  some = bitXor v1 v2
+
+  some-fits : some < 2 ^ w
+  some-fits = xor-lt w v1 v2 fits1 fits2
+
+  pub some-bit : (k : ℕ) → k < w → one (bit k some) ≡ differing (digits w v1 v2 k) (F3 .nil)
+  some-bit k h = let a = full k h in let x = value-in w v1 v2 k h in let b = bit-xor k v1 v2 in grind arith
+
+  pub weight-ones : ones some ≡ weight F3 w (digits w v1 v2)
+  weight-ones = ones-bits w some some-fits ∙ joined-same _+_ 0 w _ _ some-bit
+
+  -- each digit is the number of its two words, "not 0" and "is 2", that hold its place
+  pub sum-ones : (ones some + ones ((2 ^ w - 1) - v2)) % 3 ≡ value (joined (F3 .add) (F3 .nil) w (digits w v1 v2))
+  sum-ones =
+      ap (λ x. x % 3) (
+      ap₂ _+_ (ones-bits w some some-fits) (ones-bits w _ (ones-sub-lt w v2))
+      ∙ sym (total-add w (λ k. one (bit k some)) (λ k. one (bit k ((2 ^ w - 1) - v2))))
+      ∙ joined-same _+_ 0 w _ _ (λ k h.
+      let a = full k h in let x = value-in w v1 v2 k h in let b = bit-xor k v1 v2 in let n = bit-not w k v2 fits2 h in grind arith))
+      ∙ sym (sum-value w (digits w v1 v2))
+
+  pub lead-none : some ≡ 0 → (k : ℕ) → digits w v1 v2 k ≡ F3 .nil
+  lead-none e = everywhere w _
+      (λ k h. let z : bit k some ≡ false = ap (bit k) e ∙ bit-zero k in let s = some-bit k h in same-digit _ _ (grind arith))
+      (digits-out w v1 v2)
+
+  pub lead-some : (t : ℕ) → Lowest w some t → Leads F3 (digits w v1 v2) t (cond (bit t v2) 1 2)
+  lead-some t l =
+      let a = full t (l .within) in
+      let x = value-in w v1 v2 t (l .within) in
+      let b = bit-xor t v1 v2 in
+      let here = l .here in
+      record {
+        here = grind arith;
+        some = λ e. let z = ap value e in let y : ⊥ = grind arith in y;
+        below = λ k h. let z = l .below k h in let i : k < w = omega (arith, l .within) in let s = some-bit k i in same-digit _ _ (grind arith);
+      }
+
+module _ (w : ℕ) where
+  pub zero-full : Full w (2 ^ w - 1) (2 ^ w - 1)
+  zero-full k h = let o = bit-ones w k h in grind arith
+
+  pub zero-digits : (k : ℕ) → digits w (2 ^ w - 1) (2 ^ w - 1) k ≡ F3 .nil
+  zero-digits = everywhere w _
+      (λ k h. digits-in w (2 ^ w - 1) (2 ^ w - 1) k h ∙ ap (of F3) (ap₂ planeValue (bit-ones w k h) (bit-ones w k h)) ∙ of-nil F3)
+      (digits-out w (2 ^ w - 1) (2 ^ w - 1))

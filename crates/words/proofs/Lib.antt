@@ -1,0 +1,4 @@
+pub mod Operations
+pub mod Masks
+pub mod Lowest
+pub mod Spelled
