@@ -1,8 +1,10 @@
 // Vectors of digits of a small field, known to all other code by the digits they mean, and the refusals of the whole library.
 mod refusals;
 mod vectors;
+mod walks;
 
 pub use refusals::Refusal;
 pub use vectors::Coding;
 pub use vectors::Lead;
 pub use vectors::Ternary;
+pub use walks::walk;

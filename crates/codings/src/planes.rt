@@ -29,15 +29,12 @@ impl Planes {
 }
 
 // The answer that stores these planes.
-fn stored(v1: u64, v2: u64) -> Planes
-    requires { ⌜ Full 64 v1 v2 ⌝ }
-    ensures digits { λ r. ⌜ ((k : ℕ) → meantBy r k ≡ digits 64 v1 v2 k) ⌝ }
+fn stored(first: u64, second: u64) -> Planes
+    requires { ⌜ Full 64 first second ⌝ }
+    ensures digits { λ r. ⌜ ((k : ℕ) → meantBy r k ≡ digits 64 first second k) ⌝ }
     ensures stored { λ r. ⌜ Canonical r ⌝ }
 {
-    Planes {
-        first: v1,
-        second: v2,
-    }
+    Planes { first, second }
 }
 
 // The sum in six word operations.

@@ -16,32 +16,41 @@ pub struct Basis<'a, C: Coding> {
 }
 
 impl<'a, C: Coding> Basis<'a, C> {
-    // The basis of no vectors yet, of a length.
-    pub fn make(rows: &'a mut [C], length: usize) -> Result<Basis<'a, C>, Refusal> {
-        if length == 0 || length > C::width() {
+    // The basis of no vectors yet, in rows as many as a vector has places or more.
+    pub fn make(rows: &'a mut [C], places: usize) -> Result<Basis<'a, C>, Refusal>
+        ensures { λ r. ⌜ Cases r (λ b. (0 < places) × (b .length ≡ places) × (b .rank ≡ 0)) (λ _. Unit {0}) ⌝ }
+    {
+        if places == 0 || places > C::width() {
             return Err(Refusal::LengthOutOfRange);
         }
-        if length > rows.len() {
+        if places > rows.len() {
             return Err(Refusal::TooLittleRoom);
         }
         Ok(Basis {
             rows,
-            length,
+            length: places,
             rank: 0,
         })
     }
 
     // How many rows the vectors taken in come to.
-    pub fn rank(&self) -> usize {
+    pub fn rank(&self) -> usize
+        ensures { λ r. ⌜ r ≡ now (self .entry) .rank ⌝ }
+    {
         self.rank
     }
 
-    pub fn length(&self) -> usize {
+    // How many places the vectors have.
+    pub fn length(&self) -> usize
+        ensures { λ r. ⌜ r ≡ now (self .entry) .length ⌝ }
+    {
         self.length
     }
 
     // The row of a number, in the order of the leads.
-    pub fn row(&self, number: usize) -> Result<C, Refusal> {
+    pub fn row(&self, number: usize) -> Result<C, Refusal>
+        ensures { λ r. ⌜ Cases r (λ _. number < now (self .entry) .rank) (λ _. Unit {0}) ⌝ }
+    {
         if number >= self.rank {
             return Err(Refusal::NumberOutOfRange);
         }
@@ -49,21 +58,20 @@ impl<'a, C: Coding> Basis<'a, C> {
     }
 
     // Takes a vector in: the rank grows unless the rows come to it already.
-    pub fn take_in(&mut self, vector: C) -> Result<(), Refusal> {
+    pub fn take_in(&mut self, vector: C) -> Result<(), Refusal>
+        ensures { λ _. ⌜ now (self .exit) .length ≡ now (self .entry) .length ⌝ }
+        ensures { λ _. ⌜ now (self .exit) .rank ≤ now (self .entry) .rank + 1 ⌝ }
+    {
         if reaches(vector, self.length) {
             return Err(Refusal::BeyondLength);
         }
         let rank = self.rank;
-        if rank >= self.rows.len() {
-            return Err(Refusal::TooLittleRoom);
-        }
-        if insert(self.rows, rank, vector) {
-            self.rank = rank + 1;
-        }
+        self.rank = insert(self.rows, rank, vector)?;
         Ok(())
     }
 }
 
+// The row of a number, if there are so many.
 fn row_of<C: Coding>(rows: &[C], number: usize) -> Result<C, Refusal> {
     if number >= rows.len() {
         return Err(Refusal::NumberOutOfRange);
@@ -122,10 +130,10 @@ fn cleared<C: Coding>(vector: C, row: C) -> C {
     }
 }
 
-// What is left of a vector when the rows are taken off it.
-fn remainder<C: Coding>(rows: &[C], vector: C) -> C {
+// What is left of a vector when the first rows are taken off it: 0 if they come to it.
+fn remainder<C: Coding>(rows: &[C], rank: usize, vector: C) -> C {
     let mut left = vector;
-    for row in rows {
+    for row in rows.iter().take(rank) {
         left = cleared(left, *row);
     }
     left
@@ -145,14 +153,17 @@ fn rows_before<C: Coding>(rows: &[C], place: usize) -> usize
     rows.len()
 }
 
-// Takes a vector in among the first `rank` rows and says whether it became a row of its own.
-fn insert<C: Coding>(rows: &mut [C], rank: usize, vector: C) -> bool
-    requires { ⌜ rank < length (now rows) ⌝ }
+// Takes a vector in among the first rows and gives the rank after. Only a vector that grows the rank needs room.
+fn insert<C: Coding>(rows: &mut [C], rank: usize, vector: C) -> Result<usize, Refusal>
+    ensures { λ r. ⌜ Cases r (λ k. (rank ≤ k) × (k ≤ rank + 1)) (λ _. Unit {0}) ⌝ }
 {
-    let left = remainder(&rows[0..rank], vector);
+    let left = remainder(rows, rank, vector);
     let Some(lead) = left.lead() else {
-        return false;
+        return Ok(rank);
     };
+    if rank >= rows.len() {
+        return Err(Refusal::TooLittleRoom);
+    }
     let new = scaled(left, inverse(lead.digit));
     for number in 0..rank {
         rows[number] = cleared(rows[number], new);
@@ -160,5 +171,5 @@ fn insert<C: Coding>(rows: &mut [C], rank: usize, vector: C) -> bool
     let at = rows_before(&rows[0..rank], lead.place);
     rows[rank] = new;
     rows[at..rank + 1].rotate_right(1);
-    true
+    Ok(rank + 1)
 }

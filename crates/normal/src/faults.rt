@@ -12,16 +12,16 @@ pub enum Layer {
 
 pub impl fmt::Display for Layer as LayerDisplay {
     fn fmt<W: fmt::Write>(&self, f: &mut fmt::Formatter<W>) -> fmt::Result {
-        f.write_str(
-            match self {
-                Layer::Text => "text",
-                Layer::Sheet => "sheet",
-                Layer::Job => "job",
-            },
-        )
+        let name = match self {
+            Layer::Text => "text",
+            Layer::Sheet => "sheet",
+            Layer::Job => "job",
+        };
+        f.write_str(name)
     }
 }
 
+// It rises through the layers as it is.
 #[derive(Clone, Copy)]
 pub struct Fault {
     pub refusal: Refusal,

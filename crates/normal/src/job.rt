@@ -1,22 +1,39 @@
 // The job: takes each value line of a sheet into a basis, and shows the names line and the rows.
 use crate::bases::Basis;
 use crate::faults::Fault;
+use crate::faults::FaultDisplay;
 use crate::faults::Layer;
 use crate::sheets::Sheet;
 use crate::sheets::Values;
 use coding::Coding;
 use coding::Refusal;
+use codings::Planes;
+use codings::PlanesCoding;
+use std::alloc::AllocError;
+use std::alloc::Global;
 use std::fmt;
+
+// What is printed of a text: the form of its sheet, or why it is refused.
+pub fn answer(heap: Global, text: &[u8]) -> Result<String, AllocError> {
+    let mut rows = [Planes::zero(); 64];
+    match normal_form(text, &mut rows) {
+        Ok(form) => form.to_string(heap),
+        Err(fault) => fault.to_string(heap),
+    }
+}
 
 // A sheet's names line and the basis of its value lines.
 #[derive(Drop)]
-pub struct Form<'a, C: Coding> {
-    head: &'a [u8],
-    basis: Basis<'a, C>,
+pub struct Form<'t, 'r, C: Coding> {
+    head: &'t [u8],
+    basis: Basis<'r, C>,
 }
 
 // The form of a sheet, in rows that the caller lends.
-pub fn normal_form<'a, C: Coding>(text: &'a [u8], rows: &'a mut [C]) -> Result<Form<'a, C>, Fault> {
+pub fn normal_form<'t, 'r, C: Coding>(
+    text: &'t [u8],
+    rows: &'r mut [C],
+) -> Result<Form<'t, 'r, C>, Fault> {
     let sheet = Sheet::open(text)?;
     let mut basis = at_end(Basis::make(rows, sheet.names()), text)?;
     for number in 0..sheet.lines() {
@@ -52,20 +69,22 @@ fn at_end<T>(result: Result<T, Refusal>, text: &[u8]) -> Result<T, Fault> {
 }
 
 // What is printed: the names line, then each row as digits with single blanks between them.
-pub impl<'a, C: Coding> fmt::Display for Form<'a, C> as FormDisplay {
+pub impl<'t, 'r, C: Coding> fmt::Display for Form<'t, 'r, C> as FormDisplay {
     fn fmt<W: fmt::Write>(&self, f: &mut fmt::Formatter<W>) -> fmt::Result {
         for byte in self.head {
             f.write_char(char::from(*byte))?;
         }
         for number in 0..self.basis.rank() {
-            if let Ok(row) = self.basis.row(number) {
-                write_row(row, self.basis.length(), f)?;
+            match self.basis.row(number) {
+                Ok(row) => write_row(row, self.basis.length(), f)?,
+                Err(_) => return Err(fmt::Error),
             }
         }
         Ok(())
     }
 }
 
+// One row and its line end.
 fn write_row<C: Coding, W: fmt::Write>(
     row: C,
     length: usize,
@@ -75,8 +94,9 @@ fn write_row<C: Coding, W: fmt::Write>(
         if place > 0 {
             f.write_char(' ')?;
         }
-        if let Ok(digit) = row.digit(place) {
-            write!(f, "{digit}")?;
+        match row.digit(place) {
+            Ok(digit) => write!(f, "{digit}")?,
+            Err(_) => return Err(fmt::Error),
         }
     }
     f.write_char('\n')

@@ -3,14 +3,11 @@ mod bases;
 mod faults;
 mod job;
 mod sheets;
+#[cfg(test)]
+mod tests;
 mod texts;
 mod tokens;
 
-use coding::Coding;
-use codings::Planes;
-use codings::PlanesCoding;
-use faults::FaultDisplay;
-use job::FormDisplay;
 use std::io;
 use std::io::Read;
 
@@ -20,9 +17,6 @@ const MOST_READ: u64 = 65_001;
 fn main(rt: LibcRuntime) -> io::Result<()> {
     let mut text = Vec::new(rt.alloc());
     rt.stdin().take(MOST_READ).read_to_end(&mut text)?;
-    let mut rows = [Planes::zero(); 64];
-    match job::normal_form(text.as_slice(), &mut rows) {
-        Ok(form) => print!(rt, "{form}"),
-        Err(fault) => print!(rt, "{fault}"),
-    }
+    let answer = job::answer(rt.alloc(), text.as_slice())?;
+    rt.print(answer)
 }

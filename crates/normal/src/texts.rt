@@ -32,7 +32,7 @@ pub fn kind_of(byte: u8) -> Kind {
 
 // Judges the length before any byte, so that a text that is too long is always refused as such.
 pub fn judge(text: &[u8]) -> Result<(), Fault>
-    ensures { λ r. ⌜ Cases r (λ _. length (now (text .entry)) ≤ 65000) (λ f. f .place < length (now (text .entry))) ⌝ }
+    ensures { λ r. ⌜ Cases r (λ _. length (now (text .entry)) ≤ 65000) (λ f. (f .place < length (now (text .entry))) × (65000 < length (now (text .entry)) → f .place ≡ 65000)) ⌝ }
 {
     if text.len() > LONGEST {
         return Err(fault(Refusal::TextTooLong, LONGEST));

@@ -58,13 +58,14 @@ pub const MOST_WORDS: usize = 64;
 // A line in words, and the place after its line end.
 #[derive(Clone, Copy)]
 pub struct Line<'a> {
-    words: [&'a [u8]; 64],
+    words: [&'a [u8]; MOST_WORDS],
     count: usize,
     pub end: usize,
 }
 
 impl<'a> Line<'a> {
-    pub fn words(&self) -> &[&'a [u8]]
+    // The words in their order; `line_at` finds at most as many as a line has room for.
+    pub(crate) fn words(&self) -> &[&'a [u8]]
         requires { ⌜ now self .count ≤ 64 ⌝ }
         ensures { λ r. ⌜ length (now r) ≡ now (self .entry) .count ⌝ }
     {
@@ -76,15 +77,18 @@ impl<'a> Line<'a> {
 pub fn line_at<'a>(text: &'a [u8], start: usize) -> Option<Line<'a>>
     ensures { λ r. ⌜ Cases r (Unit {0}) (λ l. (0 < l .count) × (l .count ≤ 64) × (l .end ≤ length (now (text .entry)))) ⌝ }
 {
-    let mut words: [&'a [u8]; 64] = [&text[0..0]; 64];
+    let mut words = [&text[0..0]; MOST_WORDS];
     let mut next = start;
     for count in 0..MOST_WORDS {
-        let word_token = token_at(text, next)?;
-        let Token::Word(word) = word_token.token else {
+        let Placed {
+            token: Token::Word(word),
+            place,
+        } = token_at(text, next)?
+        else {
             return None;
         };
         words[count] = word;
-        let after = token_at(text, next + word.len())?;
+        let after = token_at(text, place + word.len())?;
         next = after.place + 1;
         match after.token {
             Token::Blank => {}

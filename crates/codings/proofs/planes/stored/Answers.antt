@@ -8,6 +8,6 @@ pub returns : need.returns
 returns c = record {
   digits = λ k. refl;
   stored = ap₂ (λ a b. record { first = a; second = b })
-      (full-spelled1 64 (c .args .v1) (c .args .v2) (c .pre) (search needs))
-      (full-spelled2 64 (c .args .v1) (c .args .v2) (search needs));
+      (full-spelled1 64 (c .args .first) (c .args .second) (c .pre) (search needs))
+      (full-spelled2 64 (c .args .first) (c .args .second) (search needs));
 }
