@@ -4,7 +4,13 @@ mod vectors;
 mod walks;
 
 pub use refusals::Refusal;
+pub use refusals::RefusalDebug;
+pub use refusals::RefusalEq;
+pub use refusals::RefusalPartialEq;
 pub use vectors::Coding;
 pub use vectors::Lead;
+pub use vectors::LeadDebug;
+pub use vectors::LeadEq;
+pub use vectors::LeadPartialEq;
 pub use vectors::Ternary;
 pub use walks::walk;

@@ -38,7 +38,7 @@ pub enum Refusal {
 }
 
 impl Refusal {
-    // The number by which customers know the refusal.
+    // The number that is printed for the refusal.
     pub fn number(self) -> u8
         ensures { λ r. ⌜ r ≡ numberOf self ⌝ }
     {

@@ -3,4 +3,5 @@ mod planes;
 
 pub use planes::Planes;
 pub use planes::PlanesCoding;
+pub use planes::PlanesDebug;
 pub use planes::PlanesTernary;

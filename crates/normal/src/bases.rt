@@ -26,6 +26,9 @@ impl<'a, C: Coding> Basis<'a, C> {
         if places > rows.len() {
             return Err(Refusal::TooLittleRoom);
         }
+        for row in rows.iter_mut().take(places) {
+            *row = C::zero();
+        }
         Ok(Basis {
             rows,
             length: places,
@@ -47,11 +50,11 @@ impl<'a, C: Coding> Basis<'a, C> {
         self.length
     }
 
-    // The row of a number, in the order of the leads.
+    // The row of a number below the length: in the order of the leads, and zero from the rank on.
     pub fn row(&self, number: usize) -> Result<C, Refusal>
-        ensures { λ r. ⌜ Cases r (λ _. number < now (self .entry) .rank) (λ _. Unit {0}) ⌝ }
+        ensures { λ r. ⌜ Cases r (λ _. number < now (self .entry) .length) (λ _. Unit {0}) ⌝ }
     {
-        if number >= self.rank {
+        if number >= self.length {
             return Err(Refusal::NumberOutOfRange);
         }
         row_of(self.rows, number)
