@@ -1,6 +1,6 @@
 -- Laws of what is joined over the places below n.
 use mathlib.Core.Path.{_≡_, refl, ap₂}
-use Prim.Native.Nat.{ℕ, zero, suc, _+_, _<_}
+use Prim.Native.Nat.{ℕ, zero, suc, _+_, _<_, _≤_}
 use native.Mathlib.Omega.{arith}
 use Rattle.algebra.specs.Vector.{joined, total}
 
@@ -18,3 +18,9 @@ pub total-add : (n : ℕ) (f g : ℕ → ℕ) → total n (λ k. f k + g k) ≡ 
 unfolding joined
 total-add zero f g = refl
 total-add (suc n) f g = let i = total-add n f g in omega (arith, i)
+
+-- a number that counts places is at most their number
+pub total-most : (n : ℕ) (f : ℕ → ℕ) → ((k : ℕ) → f k ≤ 1) → total n f ≤ n
+unfolding joined
+total-most zero f h = omega arith
+total-most (suc n) f h = omega (arith, total-most n f h, h n)

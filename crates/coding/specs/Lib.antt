@@ -1,3 +1,4 @@
 pub mod Refusals
 pub mod Lengths
 pub mod Walks
+pub mod Weights

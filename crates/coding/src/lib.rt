@@ -2,6 +2,7 @@
 mod refusals;
 mod vectors;
 mod walks;
+mod weights;
 
 pub use refusals::Refusal;
 pub use refusals::RefusalDebug;
@@ -14,3 +15,4 @@ pub use vectors::LeadEq;
 pub use vectors::LeadPartialEq;
 pub use vectors::Ternary;
 pub use walks::walk;
+pub use weights::count_weights;

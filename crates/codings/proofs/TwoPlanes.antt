@@ -1,11 +1,14 @@
 -- The word operations on two planes, over plain numbers: what each answer means, and that no place is left empty.
 use mathlib.Core.Path.{_≡_, refl, sym, ap, ap₂, _∙_}
 use mathlib.Core.Bool.{Bool, true, false, not, cond, _&&_, _||_}
+use mathlib.Core.Logic.{inl, inr}
 use Prim.Native.Nat.{ℕ, _+_, _-_, _*_, _%_, _^_, _<_, _≤_}
 use native.Mathlib.Omega.{arith}
+use lib.Dec.{eqb}
 use lib.Bits.{bitAnd, bitOr, bitXor, or-lt, xor-lt}
 use lib.Count.{ones}
 use lib.Pow.{ones-sub-lt}
+use Rattle.std.proofs.shelf.Tests.{cases-eq, eq-eqb, ne-eqb, cond-true, cond-false}
 use Rattle.words.specs.Bit.{bit, one, differs}
 use Rattle.words.proofs.Operations.{bit-and, bit-or, bit-xor, bit-not}
 use Rattle.words.proofs.Masks.{bit-zero, bit-ones}
@@ -13,7 +16,7 @@ use Rattle.words.proofs.Lowest.{Lowest}
 use Rattle.words.proofs.Spelled.{word-same, word-bits}
 use Rattle.algebra.specs.Field.{value, of, minus}
 use Rattle.algebra.specs.Modulo.{F3}
-use Rattle.algebra.specs.Vector.{joined, differing, weight, distance, Leads}
+use Rattle.algebra.specs.Vector.{joined, differing, changed, weight, distance, Leads}
 use Rattle.algebra.proofs.Digits.{same-digit, of-nil}
 use Rattle.algebra.proofs.Joined.{joined-same, total-add}
 use Rattle.algebra.proofs.Ternary.{of-add, of-neg, of-minus, of-mul, sum-value}
@@ -52,6 +55,29 @@ module _ (w v1 v2 : ℕ) (fv : Full w v1 v2) where
 
   pub negation-full : Full w v2 v1
   negation-full k h = let a = fv k h in grind arith
+
+-- one digit d put at a place: V1 is set there unless d is 1, and V2 unless d is 2
+module _ (w v1 v2 u1 u2 place d : ℕ) (small : d < 3)
+    (put1 : (k : ℕ) → k < w → bit k u1 ≡ cond (eqb k place) (not (eqb d 1)) (bit k v1))
+    (put2 : (k : ℕ) → k < w → bit k u2 ≡ cond (eqb k place) (not (eqb d 2)) (bit k v2)) where
+  pub change-full : Full w v1 v2 → Full w u1 u2
+  change-full full k h = let a = full k h in let p = put1 k h in let q = put2 k h in grind arith
+
+  pub change-digits : place < w → (k : ℕ) → digits w u1 u2 k ≡ changed F3 (digits w v1 v2) place (of F3 d) k
+  change-digits inside = everywhere w _ within outside
+    where
+      within : (k : ℕ) → k < w → digits w u1 u2 k ≡ changed F3 (digits w v1 v2) place (of F3 d) k
+      within k h =
+          let p = put1 k h in let q = put2 k h in let x = digits-in w u1 u2 k h in let y = digits-in w v1 v2 k h in
+          elim (cases-eq k place) [
+            | inl e ↦ let t = eq-eqb k place e in x ∙ same-digit _ _ (grind arith) ∙ sym (cond-true (eqb k place) _ _ t)
+            | inr n ↦ let t = ne-eqb k place n in x ∙ ap (of F3) (grind arith) ∙ sym y ∙ sym (cond-false (eqb k place) _ _ t)
+          ]
+
+      outside : (k : ℕ) → w ≤ k → digits w u1 u2 k ≡ changed F3 (digits w v1 v2) place (of F3 d) k
+      outside k h =
+          let t = ne-eqb k place (λ e. omega (arith, e)) in
+          digits-out w u1 u2 k h ∙ sym (digits-out w v1 v2 k h) ∙ sym (cond-false (eqb k place) _ _ t)
 
 module _ (w v1 v2 w1 w2 : ℕ) (fv : Full w v1 v2) (fw : Full w w1 w2) where
   pub sum-digits : (k : ℕ) → digits w (bitOr (bitXor v2 w2) (bitXor (bitXor v1 w1) v2)) (bitOr (bitXor v1 w1) (bitXor (bitXor v2 w2) v1)) k

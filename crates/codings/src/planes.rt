@@ -28,33 +28,28 @@ impl Planes {
     }
 }
 
-// The answer that stores these planes.
+// The answer that stores two planes.
 fn stored(first: u64, second: u64) -> Planes
-    requires { ⌜ Full 64 first second ⌝ }
     ensures digits { λ r. ⌜ ((k : ℕ) → meantBy r k ≡ digits 64 first second k) ⌝ }
-    ensures stored { λ r. ⌜ Canonical r ⌝ }
+    ensures stored { λ r. ⌜ (Full 64 first second → Canonical r) ⌝ }
 {
     Planes { first, second }
 }
 
-// The sum in six word operations.
-fn added(v1: u64, v2: u64, w1: u64, w2: u64) -> Planes
-    requires left { ⌜ Full 64 v1 v2 ⌝ }
-    requires right { ⌜ Full 64 w1 w2 ⌝ }
-    ensures digits { λ r. ⌜ ((k : ℕ) → meantBy r k ≡ F3 .add (digits 64 v1 v2 k) (digits 64 w1 w2 k)) ⌝ }
-    ensures stored { λ r. ⌜ Canonical r ⌝ }
+// The planes of the sum, in six word operations.
+fn added(v1: u64, v2: u64, w1: u64, w2: u64) -> (u64, u64)
+    ensures digits { λ r. ⌜ (Full 64 v1 v2 → Full 64 w1 w2 → (k : ℕ) → digits 64 (r .0) (r .1) k ≡ F3 .add (digits 64 v1 v2 k) (digits 64 w1 w2 k)) ⌝ }
+    ensures full { λ r. ⌜ (Full 64 v1 v2 → Full 64 w1 w2 → Full 64 (r .0) (r .1)) ⌝ }
 {
     let t1 = v1 ^ w1;
     let t2 = v2 ^ w2;
-    stored(t2 | (t1 ^ v2), t1 | (t2 ^ v1))
+    (t2 | (t1 ^ v2), t1 | (t2 ^ v1))
 }
 
 // The planes of the product, place by place.
 fn multiplied(v1: u64, v2: u64, w1: u64, w2: u64) -> (u64, u64)
-    requires left { ⌜ Full 64 v1 v2 ⌝ }
-    requires right { ⌜ Full 64 w1 w2 ⌝ }
-    ensures digits { λ r. ⌜ ((k : ℕ) → digits 64 (r .0) (r .1) k ≡ F3 .mul (digits 64 v1 v2 k) (digits 64 w1 w2 k)) ⌝ }
-    ensures full { λ r. ⌜ Full 64 (r .0) (r .1) ⌝ }
+    ensures digits { λ r. ⌜ (Full 64 v1 v2 → Full 64 w1 w2 → (k : ℕ) → digits 64 (r .0) (r .1) k ≡ F3 .mul (digits 64 v1 v2 k) (digits 64 w1 w2 k)) ⌝ }
+    ensures full { λ r. ⌜ (Full 64 v1 v2 → Full 64 w1 w2 → Full 64 (r .0) (r .1)) ⌝ }
 {
     ((v1 | w1) & (v2 | w2), (v1 | w2) & (v2 | w1))
 }
@@ -111,14 +106,16 @@ pub impl Coding for Planes as PlanesCoding {
     fn sum(self, other: Planes) -> Planes {
         let (v1, v2) = self.read();
         let (w1, w2) = other.read();
-        added(v1, v2, w1, w2)
+        let (s1, s2) = added(v1, v2, w1, w2);
+        stored(s1, s2)
     }
 
     // The negated vector has its planes swapped.
     fn difference(self, other: Planes) -> Planes {
         let (v1, v2) = self.read();
         let (w1, w2) = other.read();
-        added(v1, v2, w2, w1)
+        let (d1, d2) = added(v1, v2, w2, w1);
+        stored(d1, d2)
     }
 
     fn product(self, other: Planes) -> Planes {
@@ -143,13 +140,13 @@ pub impl Coding for Planes as PlanesCoding {
 
     fn weight(self) -> usize {
         let (v1, v2) = self.read();
-        (v1 ^ v2).count_ones() as usize
+        words::count(v1 ^ v2)
     }
 
     fn distance(self, other: Planes) -> usize {
         let (v1, v2) = self.read();
         let (w1, w2) = other.read();
-        ((v1 ^ w1) | (v2 ^ w2)).count_ones() as usize
+        words::count((v1 ^ w1) | (v2 ^ w2))
     }
 
     // A 1 is counted among the non-zero digits, and a 2 there and among the twos.
@@ -157,8 +154,8 @@ pub impl Coding for Planes as PlanesCoding {
         let (v1, v2) = self.read();
         let (w1, w2) = other.read();
         let (p1, p2) = multiplied(v1, v2, w1, w2);
-        let nonzero = (p1 ^ p2).count_ones();
-        let twos = (!p2).count_ones();
+        let nonzero = words::count(p1 ^ p2);
+        let twos = words::count(!p2);
         ((nonzero + twos) % 3) as u8
     }
 
@@ -200,7 +197,7 @@ pub impl Ternary for Planes as PlanesTernary {
         if !(v1 ^ v2) & low != 0 {
             return Ok(0);
         }
-        let twos = (!v2 & low).count_ones();
+        let twos = words::count(!v2 & low);
         Ok(1 + (twos % 2) as u8)
     }
 }

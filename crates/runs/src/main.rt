@@ -1,13 +1,21 @@
 // Runs the figures that are not proved, and prints them.
 mod bounds;
+mod engine;
 
 use coding::Coding;
+use coding::Ternary;
 use codings::Planes;
 use codings::PlanesCoding;
 use codings::PlanesTernary;
 use std::io;
 
+// What one coding answers, in rows that are lent.
+fn print<C: Ternary>(rt: &LibcRuntime, name: &str, rows: &mut [C]) -> io::Result<()> {
+    println!(rt, "{name}")?;
+    bounds::print(rt, rows)?;
+    engine::print(rt, rows)
+}
+
 fn main(rt: LibcRuntime) -> io::Result<()> {
-    println!(rt, "planes")?;
-    bounds::print(&rt, &mut [Planes::zero(); 9])
+    print(&rt, "planes", &mut [Planes::zero(); 729])
 }

@@ -1,7 +1,8 @@
 // Words of 64 bits, place by place. The lemmas that every coding cites on them are in proofs/.
 ghost use mathlib.Core.Path.{_≡_};
 ghost use mathlib.Core.Bool.{cond};
-ghost use Prim.Native.Nat.{ℕ, _<_};
+ghost use Prim.Native.Nat.{ℕ, _<_, _≤_};
+ghost use lib.Count.{ones};
 ghost use lib.Dec.{eqb, ltb};
 ghost use Rattle.words.specs.Bit.{bit};
 
@@ -28,4 +29,12 @@ pub fn put(word: u64, place: usize, set: bool) -> u64
     }
     let at = 1 << place;
     if set { word | at } else { word & !at }
+}
+
+// How many bits are set.
+pub fn count(word: u64) -> usize
+    ensures value { λ r. ⌜ r ≡ ones word ⌝ }
+    ensures bound { λ r. ⌜ r ≤ 64 ⌝ }
+{
+    word.count_ones() as usize
 }

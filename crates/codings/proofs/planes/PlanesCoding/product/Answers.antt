@@ -3,10 +3,13 @@ use Rattle.algebra.specs.Modulo.{F3}
 use Rattle.codings.proofs.planes.PlanesCoding.product.Needs as need
 
 pub returns : need.returns
-returns c = record {
-  digits = λ k.
-      c .stored .ensures .digits k
-      ∙ c .multiplied-p1 .ensures .digits k
-      ∙ ap₂ (F3 .mul) (c .read-v1 .ensures .digits k) (c .read-w1 .ensures .digits k);
-  stored = c .stored .ensures .stored;
-}
+returns c =
+    let v = c .read-v1 .ensures in
+    let w = c .read-w1 .ensures in
+    record {
+      digits = λ k.
+          c .stored .ensures .digits k
+          ∙ c .multiplied-p1 .ensures .digits (v .full) (w .full) k
+          ∙ ap₂ (F3 .mul) (v .digits k) (w .digits k);
+      stored = c .stored .ensures .stored (c .multiplied-p1 .ensures .full (v .full) (w .full));
+    }

@@ -38,12 +38,6 @@ returns-then-v2-low-eq0 c =
           (v .0) (v .1) (c .read-v1 .ensures .full) (search needs) (search needs) (c .if-v2-low-eq0 .taken)),
     )
 
-pub stored-requires : need.stored-requires
-stored-requires c κs =
-    let v = c .read-v1 .result in
-    next-full 64 (c .args .n) (c .below-low .result) (c .if-n-gt64 .left) (c .below-low .ok) (c .below-low .ensures)
-    (v .0) (v .1) (c .read-v1 .ensures .full) (search needs) (search needs)
-
 pub returns : need.returns
 returns c =
     let v = c .read-v1 .result in
@@ -61,6 +55,8 @@ returns c =
           subst (λ x. Next F3 (c .args .n) x (next .0) (meantBy (c .stored .result))) same
               (subst (λ y. Next F3 (c .args .n) (digits 64 (v .0) (v .1)) (next .0) y) (sym (fun-ext (c .stored .ensures .digits))) (next .1)),
         ),
-        c .stored .ensures .stored,
+        c .stored .ensures .stored
+            (next-full 64 (c .args .n) (c .below-low .result) most (c .below-low .ok) (c .below-low .ensures)
+            (v .0) (v .1) (c .read-v1 .ensures .full) (search needs) (search needs)),
       ),
     )
