@@ -3,6 +3,7 @@ use mathlib.Core.Path.{_≡_, sym, ap, ap₂, _∙_}
 use mathlib.Core.Bool.{cond}
 use mathlib.Core.Logic.{inl, inr}
 use Prim.Native.Nat.{ℕ, _%_, _<_, _≤_}
+use native.Mathlib.Nat.{mod-eq-of-lt}
 use lib.Dec.{ltb}
 use Rattle.std.proofs.shelf.Tests.{lt-ltb, le-ltb, cases-lt, cond-true, cond-false}
 use Rattle.algebra.specs.Field.{Digit, value, of}
@@ -26,6 +27,13 @@ module _ (w : ℕ) where
 
   pub laid-out : (f : ℕ → ℕ) (k : ℕ) → w ≤ k → laid w f k ≡ F3 .nil
   laid-out f k h = laid-none f k h ∙ of-nil F3
+
+  -- what is laid is read back
+  pub laid-value : (f : ℕ → ℕ) → ((k : ℕ) → f k < 3) → (k : ℕ) → k < w → value (laid w f k) ≡ f k
+  laid-value f small k h = ap value (laid-in f k h) ∙ mod-eq-of-lt (small k)
+
+  pub laid-nil : (f : ℕ → ℕ) → ((k : ℕ) → k < w → f k ≡ 0) → (k : ℕ) → laid w f k ≡ F3 .nil
+  laid-nil f e = everywhere w _ (λ k l. laid-in f k l ∙ ap (of F3) (e k l) ∙ of-nil F3) (laid-out f)
 
   pub laid-same : (f g : ℕ → ℕ) → ((k : ℕ) → k < w → f k ≡ g k) → (k : ℕ) → laid w f k ≡ laid w g k
   laid-same f g e = everywhere w _

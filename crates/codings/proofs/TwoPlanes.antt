@@ -17,11 +17,11 @@ use Rattle.words.proofs.Spelled.{word-same, word-bits}
 use Rattle.algebra.specs.Field.{value, of, minus}
 use Rattle.algebra.specs.Modulo.{F3}
 use Rattle.algebra.specs.Vector.{joined, differing, changed, weight, distance, Leads}
-use Rattle.algebra.proofs.Digits.{same-digit, of-nil}
+use Rattle.algebra.proofs.Digits.{same-digit}
 use Rattle.algebra.proofs.Joined.{joined-same, total-add}
 use Rattle.algebra.proofs.Ternary.{of-add, of-neg, of-minus, of-mul, sum-value}
 use Rattle.codings.specs.TwoPlanes.{planeValue, digits, Full, spelled1, spelled2}
-use Rattle.codings.proofs.Places.{everywhere, laid-in, laid-out, laid-same, laid-by}
+use Rattle.codings.proofs.Places.{everywhere, laid-in, laid-out, laid-value, laid-nil, laid-same, laid-by}
 use Rattle.codings.proofs.Counts.{ones-bits}
 
 module _ (w v1 v2 : ℕ) where
@@ -32,7 +32,7 @@ module _ (w v1 v2 : ℕ) where
   digits-in = laid-in w (λ k. planeValue (bit k v1) (bit k v2))
 
   pub value-in : (k : ℕ) → k < w → value (digits w v1 v2 k) ≡ planeValue (bit k v1) (bit k v2)
-  value-in k h = ap value (digits-in k h) ∙ grind arith
+  value-in = laid-value w (λ k. planeValue (bit k v1) (bit k v2)) (λ k. grind arith)
 
   -- full planes are the words that their digits are spelled by
   pub full-spelled1 : Full w v1 v2 → v1 < 2 ^ w → v1 ≡ spelled1 w (digits w v1 v2)
@@ -68,10 +68,10 @@ module _ (w v1 v2 u1 u2 place d : ℕ) (small : d < 3)
     where
       within : (k : ℕ) → k < w → digits w u1 u2 k ≡ changed F3 (digits w v1 v2) place (of F3 d) k
       within k h =
-          let p = put1 k h in let q = put2 k h in let x = digits-in w u1 u2 k h in let y = digits-in w v1 v2 k h in
+          let p = put1 k h in let q = put2 k h in let x = value-in w u1 u2 k h in let y = value-in w v1 v2 k h in
           elim (cases-eq k place) [
-            | inl e ↦ let t = eq-eqb k place e in x ∙ same-digit _ _ (grind arith) ∙ sym (cond-true (eqb k place) _ _ t)
-            | inr n ↦ let t = ne-eqb k place n in x ∙ ap (of F3) (grind arith) ∙ sym y ∙ sym (cond-false (eqb k place) _ _ t)
+            | inl e ↦ let t = eq-eqb k place e in same-digit _ _ (grind arith) ∙ sym (cond-true (eqb k place) _ _ t)
+            | inr n ↦ let t = ne-eqb k place n in same-digit _ _ (grind arith) ∙ sym (cond-false (eqb k place) _ _ t)
           ]
 
       outside : (k : ℕ) → w ≤ k → digits w u1 u2 k ≡ changed F3 (digits w v1 v2) place (of F3 d) k
@@ -175,6 +175,4 @@ module _ (w : ℕ) where
   zero-full k h = let o = bit-ones w k h in grind arith
 
   pub zero-digits : (k : ℕ) → digits w (2 ^ w - 1) (2 ^ w - 1) k ≡ F3 .nil
-  zero-digits = everywhere w _
-      (λ k h. digits-in w (2 ^ w - 1) (2 ^ w - 1) k h ∙ ap (of F3) (ap₂ planeValue (bit-ones w k h) (bit-ones w k h)) ∙ of-nil F3)
-      (digits-out w (2 ^ w - 1) (2 ^ w - 1))
+  zero-digits = laid-nil w _ (λ k h. ap₂ planeValue (bit-ones w k h) (bit-ones w k h))

@@ -11,5 +11,5 @@ pub fn hold() -> usize
     ensures count { λ r. ⌜ r ≡ length figures ⌝ }
     ensures figures { λ _. ⌜ Hold ⌝ }
 {
-    5
+    9
 }

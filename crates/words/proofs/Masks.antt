@@ -1,4 +1,4 @@
--- The bits of words that hold no other: none set, one set, all set below a place.
+-- The bits of words that hold no other: none set, one set, all set below a place; and the bits that a mask leaves.
 use mathlib.Core.Path.{_≡_, refl, sym, ap, _∙_}
 use mathlib.Core.Bool.{Bool, true, false}
 use Prim.Native.Nat.{ℕ, zero, suc, _+_, _-_, _*_, _/_, _%_, _^_, _<_, _≤_}
@@ -7,10 +7,12 @@ use native.Mathlib.Nat.{pow-suc, not-suc-le-zero}
 use mathlib.Core.Logic.{inl, inr}
 use lib.Dec.{eqb, ltb, eqb·suc-zero, eqb·zero-suc, eqb·suc-suc}
 use lib.Arith.{lt-one}
+use lib.Bits.{and-mask}
 use lib.Pow.{pow-pos}
 use Rattle.std.proofs.shelf.Bits.{one-shl}
 use Rattle.std.proofs.shelf.Tests.{lt-ltb, le-ltb, cases-lt, eqb-false}
 use Rattle.words.specs.Bit.{bit}
+use Rattle.words.proofs.Operations.{bit-and}
 
 pub bit-zero : (k : ℕ) → bit k 0 ≡ false
 unfolding bit
@@ -43,6 +45,10 @@ bit-below n k = elim (cases-lt k n) [
   | inl h ↦ bit-ones n k h ∙ sym (lt-ltb k n h)
   | inr h ↦ (let q = pow-pos n in bit-high n k (2 ^ n - 1) (omega (arith, q)) h ∙ sym (le-ltb k n h))
 ]
+
+-- what is left of a number modulo 2 ^ n keeps its bits below n
+pub bit-mod : (n k a : ℕ) → k < n → bit k (a % 2 ^ n) ≡ bit k a
+bit-mod n k a h = ap (bit k) (sym (and-mask a n)) ∙ (let b = bit-and k a (2 ^ n - 1) in let o = bit-ones n k h in grind arith)
 
 bit-pow : (p k : ℕ) → bit k (2 ^ p) ≡ eqb k p
 unfolding bit

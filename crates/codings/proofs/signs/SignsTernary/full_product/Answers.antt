@@ -1,0 +1,27 @@
+use mathlib.Core.Path.{sym, ap, _∙_}
+use Prim.Native.Nat.{_+_, _%_, _≤_}
+use native.Mathlib.Omega.{arith}
+use borrow.Author.Needs.{needs}
+use Rattle.codings.proofs.SignPlanes.{product-has-zero, product-no-zero}
+use Rattle.codings.proofs.signs.SignsTernary.full_product.Needs as need
+
+pub returns-then-self-low-ne0 : need.returns-then-self-low-ne0
+returns-then-self-low-ne0 c =
+    let x = c .args .self in
+    let low = c .below-low in
+    let most : c .args .n ≤ 64 = c .if-n-gt64 .left in (
+      record { some = omega arith; most = most },
+      sym (product-has-zero 64 (x .magnitude) (x .sign) (search needs) (search needs)
+          (c .args .n) (low .result) most (low .ok) (low .ensures) (omega (arith, c .if-self-low-ne0 .taken))),
+    )
+
+pub returns : need.returns
+returns c =
+    let x = c .args .self in
+    let low = c .below-low in
+    let most : c .args .n ≤ 64 = c .if-n-gt64 .left in (
+      record { some = omega arith; most = most },
+      ap (λ x. 1 + x % 2) (c .count-twos .ensures .value)
+          ∙ sym (product-no-zero 64 (x .magnitude) (x .sign) (search needs) (search needs)
+          (c .args .n) (low .result) most (low .ok) (low .ensures) (c .if-self-low-ne0 .left)),
+    )
