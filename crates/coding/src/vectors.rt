@@ -20,7 +20,7 @@ pub struct Lead {
 }
 
 // A stored vector, known by its meaning alone: a digit at every place.
-// Every answer depends on the meant digits only, and every vector answer is canonical.
+// What is promised of an answer depends on the meant digits only, and every vector answer is canonical.
 pub trait Coding: Copy {
     // Whose digits these are.
     ghost field: { Field };

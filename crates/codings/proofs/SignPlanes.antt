@@ -5,7 +5,6 @@ use Prim.Native.Nat.{ℕ, _+_, _-_, _%_, _^_, _<_, _≤_}
 use native.Mathlib.Omega.{arith}
 use lib.Bits.{bitAnd, bitOr, bitXor, and-lt, xor-lt}
 use lib.Count.{ones, trailingZeros}
-use lib.Dec.{ltb}
 use lib.Pow.{ones-sub-lt}
 use Rattle.std.proofs.shelf.Bits.{and-le-l}
 use Rattle.words.specs.Bit.{bit, one}
@@ -17,10 +16,12 @@ use Rattle.algebra.specs.Modulo.{F3}
 use Rattle.algebra.specs.Vector.{Vector, joined, weight, product, Long, Leads}
 use Rattle.algebra.specs.Successor.{Next, Last}
 use Rattle.algebra.proofs.Joined.{joined-same}
-use Rattle.codings.specs.TwoPlanes.{Full, digits as planeDigits}
+use Rattle.codings.specs.TwoPlanes.{digits as planeDigits}
 use Rattle.codings.specs.SignWords.{digits}
 use Rattle.codings.proofs.Places.{laid-same}
+use Rattle.codings.proofs.TwoPlanes.{FullWords}
 use Rattle.codings.proofs.TwoPlanes as planes
+use Rattle.codings.proofs.Within.{Low}
 use Rattle.codings.proofs.Within as within
 
 -- the words of the places whose digit is 1, and 2
@@ -58,8 +59,8 @@ module _ (w m s : ℕ) (fits-m : m < 2 ^ w) (fits-s : s < 2 ^ w) where
   bit2 : (k : ℕ) → k < w → bit k v2 ≡ not (bit k m && bit k s)
   bit2 k h = bit-not w k (twosOf m s) twos-fits h ∙ ap not (bit-and k m s)
 
-  full : Full w v1 v2
-  full k h = let a = bit1 k h in let b = bit2 k h in grind arith
+  in-planes : FullWords w v1 v2
+  in-planes = record { full = λ k h. let a = bit1 k h in let b = bit2 k h in grind arith; fits1 = fits1; fits2 = fits2 }
 
   same-digits : (k : ℕ) → planeDigits w v1 v2 k ≡ digits w m s k
   same-digits = laid-same w _ _ (λ k h. let a = bit1 k h in let b = bit2 k h in grind arith)
@@ -83,15 +84,15 @@ module _ (w m s : ℕ) (fits-m : m < 2 ^ w) (fits-s : s < 2 ^ w) where
 
   pub weight-ones : ones m ≡ weight F3 w (digits w m s)
   weight-ones = by-planes (λ some twos v. ones some ≡ weight F3 w v)
-      (planes.weight-ones w v1 v2 full fits1 fits2)
+      (planes.weight-ones in-planes)
 
   pub sum-ones : (ones m + ones (twosOf m s)) % 3 ≡ value (joined (F3 .add) (F3 .nil) w (digits w m s))
   sum-ones = by-planes (λ some twos v. (ones some + ones twos) % 3 ≡ value (joined (F3 .add) (F3 .nil) w v))
-      (planes.sum-ones w v1 v2 full fits1 fits2)
+      (planes.sum-ones in-planes)
 
   pub lead-none : m ≡ 0 → (k : ℕ) → digits w m s k ≡ F3 .nil
   lead-none = by-planes (λ some twos v. some ≡ 0 → (k : ℕ) → v k ≡ F3 .nil)
-      (planes.lead-none w v1 v2 full fits1 fits2)
+      (planes.lead-none in-planes)
 
   -- the sign tells the digit
   pub lead-some : 0 < m → (told : Bool) → bit (trailingZeros w m) s ≡ told
@@ -104,7 +105,7 @@ module _ (w m s : ℕ) (fits-m : m < 2 ^ w) (fits-s : s < 2 ^ w) where
       let d : cond (bit t v2) 1 2 ≡ cond told 2 1 = grind arith in
       subst (Leads F3 (digits w m s) t) d (
       by-planes (λ some twos v. (t : ℕ) → Lowest w some t → Leads F3 v t (cond (bit t v2) 1 2))
-      (planes.lead-some w v1 v2 full fits1 fits2) t l)
+      (planes.lead-some in-planes) t l)
 
   -- the successor: one more than the twos, with the ones; and the ones
   next-digits : 0 < v2 → (k : ℕ)
@@ -122,19 +123,18 @@ module _ (w m s : ℕ) (fits-m : m < 2 ^ w) (fits-s : s < 2 ^ w) where
           let less : twosOf m s + 1 ≡ (2 ^ w - 1) - (v2 - 1) = omega (arith, e) in
           ap (bit k) less ∙ bit-not w k (v2 - 1) fits h
 
-  -- `low` is the word of the places below n
-  module _ (n low : ℕ) (most : n ≤ w) (low-fits : low < 2 ^ w) (low-bit : (k : ℕ) → k < w → bit k low ≡ ltb k n) where
+  module _ {n low : ℕ} (below : Low w n low) where
     pub long-is : bitAnd m ((2 ^ w - 1) - low) ≡ 0 → Long F3 n (digits w m s)
     long-is = by-planes (λ some twos v. bitAnd some ((2 ^ w - 1) - low) ≡ 0 → Long F3 n v)
-        (within.long-is w n low most low-fits low-bit v1 v2 full fits1 fits2)
+        (within.long-is below in-planes)
 
     pub not-long : 0 < bitAnd m ((2 ^ w - 1) - low) → Long F3 n (digits w m s) → ⊥
     not-long = by-planes (λ some twos v. 0 < bitAnd some ((2 ^ w - 1) - low) → Long F3 n v → ⊥)
-        (within.not-long w n low most low-fits low-bit v1 v2 full fits1 fits2)
+        (within.not-long below in-planes)
 
     pub last-is : bitAnd ((2 ^ w - 1) - twosOf m s) low ≡ 0 → Last F3 n (digits w m s)
     last-is e = by-planes (λ some twos v. Last F3 n v)
-        (within.last-is w n low most low-fits low-bit v1 v2 full fits1 fits2 e)
+        (within.last-is below in-planes e)
 
     pub next-is : 0 < bitAnd ((2 ^ w - 1) - twosOf m s) low
         → (d : ℕ) × Next F3 n (digits w m s) d (digits w (bitOr (onesOf w m s) (twosOf m s + 1)) (onesOf w m s))
@@ -142,26 +142,26 @@ module _ (w m s : ℕ) (fits-m : m < 2 ^ w) (fits-s : s < 2 ^ w) where
         let some : 0 < v2 = omega (arith, and-le-l v2 low) in
         by-planes (λ _ _ v. (d : ℕ) × Next F3 n v d (digits w (bitOr (onesOf w m s) (twosOf m s + 1)) (onesOf w m s)))
         (subst (λ u. (d : ℕ) × Next F3 n (planeDigits w v1 v2) d u) (sym (fun-ext (next-digits some)))
-        (within.next-is w n low most low-fits low-bit v1 v2 full fits1 fits2 e))
+        (within.next-is below in-planes e))
 
     pub product-has-zero : 0 < bitAnd ((2 ^ w - 1) - m) low → value (product F3 n (digits w m s)) ≡ 0
     product-has-zero = by-planes (λ some twos v. 0 < bitAnd ((2 ^ w - 1) - some) low → value (product F3 n v) ≡ 0)
-        (within.product-has-zero w n low most low-fits low-bit v1 v2 full fits1 fits2)
+        (within.product-has-zero below in-planes)
 
     -- where no digit below n is 0, no bit of the sign is loose there
     pub product-no-zero : bitAnd ((2 ^ w - 1) - m) low ≡ 0
         → value (product F3 n (digits w m s)) ≡ 1 + ones (bitAnd s low) % 2
     product-no-zero e =
         by-planes (λ some twos v. bitAnd ((2 ^ w - 1) - some) low ≡ 0 → value (product F3 n v) ≡ 1 + ones (bitAnd twos low) % 2)
-        (within.product-no-zero w n low most low-fits low-bit v1 v2 full fits1 fits2) e
+        (within.product-no-zero below in-planes) e
         ∙ ap (λ (x : ℕ). 1 + x % 2) (
-        within.ones-within w n low most low-fits low-bit (twosOf m s) twos-fits
+        within.ones-within below (twosOf m s) twos-fits
         ∙ joined-same _+_ 0 n _ _ two
-        ∙ sym (within.ones-within w n low most low-fits low-bit s fits-s))
+        ∙ sym (within.ones-within below s fits-s))
       where
         two : (k : ℕ) → k < n → one (bit k (twosOf m s)) ≡ one (bit k s)
         two k l =
-            let z = within.none-within w n low most low-fits low-bit ((2 ^ w - 1) - m) e k l in
-            let o = bit-not w k m fits-m (omega arith) in
+            let z = within.none-within below ((2 ^ w - 1) - m) e k l in
+            let o = bit-not w k m fits-m (omega (arith, below .most)) in
             let b = bit-and k m s in
             grind arith

@@ -120,25 +120,30 @@ module _ (w v1 v2 w1 w2 : ℕ) (fv : Full w v1 v2) (fw : Full w w1 w2) where
   pub shared-difference-full : Full w (bitOr t2 u1) (bitOr t1 u2)
   shared-difference-full k h = let a = fv k h in let b = fw k h in simp (bit-or, bit-xor) (grind arith)
 
-module _ (w v1 v2 w1 w2 : ℕ) where
-  pub distance-ones : v1 < 2 ^ w → v2 < 2 ^ w → w1 < 2 ^ w → w2 < 2 ^ w → Full w v1 v2 → Full w w1 w2
-      → ones (bitOr (bitXor v1 w1) (bitXor v2 w2)) ≡ distance F3 w (digits w v1 v2) (digits w w1 w2)
-  distance-ones f1 f2 g1 g2 fv fw =
-      ones-bits w _ (or-lt w _ _ (xor-lt w v1 w1 f1 g1) (xor-lt w v2 w2 f2 g2))
-      ∙ joined-same _+_ 0 w _ _ (λ k h.
-      let a = fv k h in let b = fw k h in let x = value-in w v1 v2 k h in let y = value-in w w1 w2 k h in
-      simp (bit-or, bit-xor) (grind arith))
+-- two full planes, in words of w bits
+pub record FullWords (w v1 v2 : ℕ) : Type 0 where
+  pub full : Full w v1 v2
+  pub fits1 : v1 < 2 ^ w
+  pub fits2 : v2 < 2 ^ w
 
-module _ (w v1 v2 : ℕ) (full : Full w v1 v2) (fits1 : v1 < 2 ^ w) (fits2 : v2 < 2 ^ w) where
+pub distance-ones : {w v1 v2 w1 w2 : ℕ} → FullWords w v1 v2 → FullWords w w1 w2
+    → ones (bitOr (bitXor v1 w1) (bitXor v2 w2)) ≡ distance F3 w (digits w v1 v2) (digits w w1 w2)
+distance-ones {w} {v1} {v2} {w1} {w2} p q =
+    ones-bits w _ (or-lt w _ _ (xor-lt w v1 w1 (p .fits1) (q .fits1)) (xor-lt w v2 w2 (p .fits2) (q .fits2)))
+    ∙ joined-same _+_ 0 w _ _ (λ k h.
+    let a = p .full k h in let b = q .full k h in let x = value-in w v1 v2 k h in let y = value-in w w1 w2 k h in
+    simp (bit-or, bit-xor) (grind arith))
+
+module _ {w v1 v2 : ℕ} (p : FullWords w v1 v2) where
   -- the word of the places whose digit is not 0
   abbrev some : ℕ
   some = bitXor v1 v2
 
   some-fits : some < 2 ^ w
-  some-fits = xor-lt w v1 v2 fits1 fits2
+  some-fits = xor-lt w v1 v2 (p .fits1) (p .fits2)
 
   pub some-bit : (k : ℕ) → k < w → one (bit k some) ≡ differing (digits w v1 v2 k) (F3 .nil)
-  some-bit k h = let a = full k h in let x = value-in w v1 v2 k h in let b = bit-xor k v1 v2 in grind arith
+  some-bit k h = let a = p .full k h in let x = value-in w v1 v2 k h in let b = bit-xor k v1 v2 in grind arith
 
   pub weight-ones : ones some ≡ weight F3 w (digits w v1 v2)
   weight-ones = ones-bits w some some-fits ∙ joined-same _+_ 0 w _ _ some-bit
@@ -150,7 +155,7 @@ module _ (w v1 v2 : ℕ) (full : Full w v1 v2) (fits1 : v1 < 2 ^ w) (fits2 : v2 
       ap₂ _+_ (ones-bits w some some-fits) (ones-bits w _ (ones-sub-lt w v2))
       ∙ sym (total-add w (λ k. one (bit k some)) (λ k. one (bit k ((2 ^ w - 1) - v2))))
       ∙ joined-same _+_ 0 w _ _ (λ k h.
-      let a = full k h in let x = value-in w v1 v2 k h in let b = bit-xor k v1 v2 in let n = bit-not w k v2 fits2 h in grind arith))
+      let a = p .full k h in let x = value-in w v1 v2 k h in let b = bit-xor k v1 v2 in let n = bit-not w k v2 (p .fits2) h in grind arith))
       ∙ sym (sum-value w (digits w v1 v2))
 
   pub lead-none : some ≡ 0 → (k : ℕ) → digits w v1 v2 k ≡ F3 .nil
@@ -160,7 +165,7 @@ module _ (w v1 v2 : ℕ) (full : Full w v1 v2) (fits1 : v1 < 2 ^ w) (fits2 : v2 
 
   pub lead-some : (t : ℕ) → Lowest w some t → Leads F3 (digits w v1 v2) t (cond (bit t v2) 1 2)
   lead-some t l =
-      let a = full t (l .within) in
+      let a = p .full t (l .within) in
       let x = value-in w v1 v2 t (l .within) in
       let b = bit-xor t v1 v2 in
       let here = l .here in

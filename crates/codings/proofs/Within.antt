@@ -23,21 +23,26 @@ use Rattle.algebra.proofs.Ternary.{product-nil, product-twos}
 use Rattle.codings.specs.TwoPlanes.{planeValue, digits, Full}
 use Rattle.codings.proofs.Places.{everywhere}
 use Rattle.codings.proofs.Counts.{ones-bits}
-use Rattle.codings.proofs.TwoPlanes.{digits-out, value-in, some-bit}
+use Rattle.codings.proofs.TwoPlanes.{FullWords, digits-out, value-in, some-bit}
 
--- `low` is the word of the places below n, in planes of w places
-module _ (w n low : ℕ) (most : n ≤ w) (low-fits : low < 2 ^ w) (low-bit : (k : ℕ) → k < w → bit k low ≡ ltb k n) where
+-- `low` is the word of the places below n, of w places
+pub record Low (w n low : ℕ) : Type 0 where
+  pub most : n ≤ w
+  pub fits : low < 2 ^ w
+  pub bits : (k : ℕ) → k < w → bit k low ≡ ltb k n
+
+module _ {w n low : ℕ} (m : Low w n low) where
   low-in : (k : ℕ) → k < n → bit k low ≡ true
-  low-in k h = let i : k < w = omega arith in low-bit k i ∙ lt-ltb k n h
+  low-in k h = let i : k < w = omega arith in m .bits k i ∙ lt-ltb k n h
 
   low-out : (k : ℕ) → k < w → n ≤ k → bit k low ≡ false
-  low-out k h l = low-bit k h ∙ le-ltb k n l
+  low-out k h l = m .bits k h ∙ le-ltb k n l
 
   -- a word with a set bit below n has a lowest one there, and one without has none
   pub lowest-within : (a : ℕ) → a < 2 ^ w → 0 < bitAnd a low → (t : ℕ) × (t < n) × (bit t a ≡ true) × ((k : ℕ) → k < t → bit k a ≡ false)
   lowest-within a fits e =
       let x = bitAnd a low in
-      let l = trailing-bits w x (and-lt w a low fits low-fits) e in
+      let l = trailing-bits w x (and-lt w a low fits (m .fits)) e in
       let t = trailingZeros w x in
       let here = sym (bit-and t a low) ∙ l .here in
       let h : t < n = inside t (l .within) here in
@@ -55,30 +60,30 @@ module _ (w n low : ℕ) (most : n ≤ w) (low-fits : low < 2 ^ w) (low-bit : (k
   -- the set bits of a word below n
   pub ones-within : (a : ℕ) → a < 2 ^ w → ones (bitAnd a low) ≡ total n (λ k. one (bit k a))
   ones-within a fits =
-      ones-bits n (bitAnd a low) (below-by-bits w n (bitAnd a low) (and-lt w a low fits low-fits) most (λ k h l. let o = low-out k h l in bit-and k a low ∙ grind arith))
+      ones-bits n (bitAnd a low) (below-by-bits w n (bitAnd a low) (and-lt w a low fits (m .fits)) (m .most) (λ k h l. let o = low-out k h l in bit-and k a low ∙ grind arith))
       ∙ joined-same _+_ 0 n _ _ (λ k h. let i = low-in k h in let b = bit-and k a low in grind arith)
 
   -- the bits of a word from place n on
   above-bit : (a k : ℕ) → k < w → bit k (bitAnd a ((2 ^ w - 1) - low)) ≡ (bit k a && not (ltb k n))
-  above-bit a k h = bit-and k a _ ∙ ap (λ b. bit k a && b) (bit-not w k low low-fits h ∙ ap not (low-bit k h))
+  above-bit a k h = bit-and k a _ ∙ ap (λ b. bit k a && b) (bit-not w k low (m .fits) h ∙ ap not (m .bits k h))
 
-  module _ (v1 v2 : ℕ) (full : Full w v1 v2) (fits1 : v1 < 2 ^ w) (fits2 : v2 < 2 ^ w) where
+  module _ {v1 v2 : ℕ} (p : FullWords w v1 v2) where
     pub long-is : bitAnd (bitXor v1 v2) ((2 ^ w - 1) - low) ≡ 0 → Long F3 n (digits w v1 v2)
     long-is e = everywhere w _
         (λ k h l.
         let z = sym (above-bit (bitXor v1 v2) k h) ∙ ap (bit k) e ∙ bit-zero k in
         let o = le-ltb k n l in
-        let s = some-bit w v1 v2 full fits1 fits2 k h in
+        let s = some-bit p k h in
         same-digit _ _ (grind arith))
         (λ k h l. digits-out w v1 v2 k h)
 
     pub not-long : 0 < bitAnd (bitXor v1 v2) ((2 ^ w - 1) - low) → Long F3 n (digits w v1 v2) → ⊥
     not-long e long =
         let x = bitAnd (bitXor v1 v2) ((2 ^ w - 1) - low) in
-        let l = trailing-bits w x (and-lt w _ _ (xor-lt w v1 v2 fits1 fits2) (ones-sub-lt w low)) e in
+        let l = trailing-bits w x (and-lt w _ _ (xor-lt w v1 v2 (p .fits1) (p .fits2)) (ones-sub-lt w low)) e in
         let t = trailingZeros w x in
         let b = sym (above-bit (bitXor v1 v2) t (l .within)) ∙ l .here in
-        let s = some-bit w v1 v2 full fits1 fits2 t (l .within) in
+        let s = some-bit p t (l .within) in
         elim (cases-lt t n) [
           | inl i ↦ (let o = lt-ltb t n i in let z : ⊥ = grind arith in z)
           | inr i ↦ (let d = ap value (long t i) in let z : ⊥ = grind arith in z)
@@ -95,14 +100,14 @@ module _ (w n low : ℕ) (most : n ≤ w) (low-fits : low < 2 ^ w) (low-bit : (k
     raised1 = bitOr (v2 - 1) ((2 ^ w - 1) - v1)
 
     raised-bit : (k : ℕ) → k < w → bit k raised1 ≡ (bit k (v2 - 1) || not (bit k v1))
-    raised-bit k h = bit-or k (v2 - 1) _ ∙ ap (λ b. bit k (v2 - 1) || b) (bit-not w k v1 fits1 h)
+    raised-bit k h = bit-or k (v2 - 1) _ ∙ ap (λ b. bit k (v2 - 1) || b) (bit-not w k v1 (p .fits1) h)
 
     pub next-full : Full w raised1 v1
     next-full k h = let r = raised-bit k h in grind arith
 
     pub next-is : 0 < bitAnd v2 low → (d : ℕ) × Next F3 n (digits w v1 v2) d (digits w raised1 v1)
     next-is e =
-        let r = lowest-within v2 fits2 e in
+        let r = lowest-within v2 (p .fits2) e in
         let t = r .0 in
         let h : t < w = omega (arith, r .1) in
         let d = less-bits v2 t (r .2) (r .3) in (
@@ -113,14 +118,14 @@ module _ (w n low : ℕ) (most : n ≤ w) (low-fits : low < 2 ^ w) (low-bit : (k
             room = λ z. let x = value-in w v1 v2 t h in let y = ap value z in let b = r .2 in let o : ⊥ = grind arith in o;
             cleared = λ k l.
                 let i : k < w = omega arith in
-                let a = full k i in let x = value-in w raised1 v1 k i in let o = raised-bit k i in let b = r .3 k l in let c = d .below k l in
+                let a = p .full k i in let x = value-in w raised1 v1 k i in let o = raised-bit k i in let b = r .3 k l in let c = d .below k l in
                 same-digit _ _ (grind arith);
             raised =
-                let a = full t h in let x = value-in w raised1 v1 t h in let y = value-in w v1 v2 t h in let o = raised-bit t h in let b = r .2 in let c = d .here in
+                let a = p .full t h in let x = value-in w raised1 v1 t h in let y = value-in w v1 v2 t h in let o = raised-bit t h in let b = r .2 in let c = d .here in
                 same-digit _ _ (grind arith);
             negated = λ k l. everywhere w (λ k. t < k → digits w raised1 v1 k ≡ F3 .neg (digits w v1 v2 k))
                 (λ k i l.
-                let a = full k i in let x = value-in w raised1 v1 k i in let y = value-in w v1 v2 k i in let o = raised-bit k i in let c = d .above k l in
+                let a = p .full k i in let x = value-in w raised1 v1 k i in let y = value-in w v1 v2 k i in let o = raised-bit k i in let c = d .above k l in
                 same-digit _ _ (grind arith))
                 (λ k i l. digits-out w raised1 v1 k i ∙ sym (ap (F3 .neg) (digits-out w v1 v2 k i) ∙ neg-nil F3))
                 k l;
@@ -133,8 +138,8 @@ module _ (w n low : ℕ) (most : n ≤ w) (low-fits : low < 2 ^ w) (low-bit : (k
         let t = r .0 in
         let h : t < w = omega (arith, r .1) in
         let b = r .2 in
-        let o = bit-not w t (bitXor v1 v2) (xor-lt w v1 v2 fits1 fits2) h in
-        let s = some-bit w v1 v2 full fits1 fits2 t h in
+        let o = bit-not w t (bitXor v1 v2) (xor-lt w v1 v2 (p .fits1) (p .fits2)) h in
+        let s = some-bit p t h in
         product-nil n (digits w v1 v2) t (r .1) (grind arith)
 
     pub product-no-zero : bitAnd ((2 ^ w - 1) - bitXor v1 v2) low ≡ 0
@@ -147,14 +152,14 @@ module _ (w n low : ℕ) (most : n ≤ w) (low-fits : low < 2 ^ w) (low-bit : (k
         nonzero k l =
             let h : k < w = omega arith in
             let b = none-within ((2 ^ w - 1) - bitXor v1 v2) e k l in
-            let o = bit-not w k (bitXor v1 v2) (xor-lt w v1 v2 fits1 fits2) h in
-            let s = some-bit w v1 v2 full fits1 fits2 k h in
+            let o = bit-not w k (bitXor v1 v2) (xor-lt w v1 v2 (p .fits1) (p .fits2)) h in
+            let s = some-bit p k h in
             grind arith
 
         two : (k : ℕ) → k < n → one (bit k ((2 ^ w - 1) - v2)) ≡ value (digits w v1 v2 k) - 1
         two k l =
             let h : k < w = omega arith in
-            let o = bit-not w k v2 fits2 h in
+            let o = bit-not w k v2 (p .fits2) h in
             let x = value-in w v1 v2 k h in
             let z = nonzero k l in
             grind arith
