@@ -16,3 +16,4 @@ pub use vectors::LeadPartialEq;
 pub use vectors::Ternary;
 pub use walks::walk;
 pub use weights::count_weights;
+pub use weights::walk_weights;
