@@ -16,6 +16,9 @@ use codings::SignsTernary;
 use codings::Single;
 use codings::SingleCoding;
 use codings::SingleTernary;
+use sheet::FaultDebug;
+use sheet::open;
+use sheet::write;
 use std::test::*;
 
 // The vector with these digits, place 0 first.
@@ -253,4 +256,26 @@ fn walks_length_two() -> Result<(), Fail> {
     let mut single = [Single::zero(); 9];
     check_eq(walk(2, &mut single)?, 9)?;
     in_order(&single)
+}
+
+// Writes two rows, opens what was written and reads the rows again.
+fn reads_back<C: Ternary>(rows: &[C]) -> Result<(), Fail> {
+    let mut output = [b'?'; 20];
+    let length = write(b"a b c\n", rows, &mut output)?;
+    check(length == 18)?;
+    check_eq(&output[0..20], b"a b c\n1 2 0\n0 1 2\n??")?;
+    let sheet = open(&output[0..18])?;
+    check_eq(sheet.lines(), 2)?;
+    shows::<C>(sheet.line(0)?, &[1, 2, 0, 0])?;
+    shows::<C>(sheet.line(1)?, &[0, 1, 2, 0])
+}
+
+#[test]
+fn reads_back_what_was_written() -> Result<(), Fail> {
+    let planes: [Planes; 2] = [vector(&[1, 2, 0])?, vector(&[0, 1, 2])?];
+    reads_back(&planes)?;
+    let signs: [Signs; 2] = [vector(&[1, 2, 0])?, vector(&[0, 1, 2])?];
+    reads_back(&signs)?;
+    let single: [Single; 2] = [vector(&[1, 2, 0])?, vector(&[0, 1, 2])?];
+    reads_back(&single)
 }

@@ -43,23 +43,6 @@ impl<'a, C: Coding> Basis<'a, C> {
         self.rank
     }
 
-    // How many places the vectors have.
-    pub fn length(&self) -> usize
-        ensures { λ r. ⌜ r ≡ now (self .entry) .length ⌝ }
-    {
-        self.length
-    }
-
-    // The row of a number below the length: in the order of the leads, and zero from the rank on.
-    pub fn row(&self, number: usize) -> Result<C, Refusal>
-        ensures { λ r. ⌜ Cases r (λ _. number < now (self .entry) .length) (λ _. Unit {0}) ⌝ }
-    {
-        if number >= self.length {
-            return Err(Refusal::NumberOutOfRange);
-        }
-        row_of(self.rows, number)
-    }
-
     // Takes a vector in: the rank grows unless the rows come to it already.
     pub fn take_in(&mut self, vector: C) -> Result<(), Refusal>
         ensures { λ _. ⌜ now (self .exit) .length ≡ now (self .entry) .length ⌝ }
@@ -72,14 +55,6 @@ impl<'a, C: Coding> Basis<'a, C> {
         self.rank = insert(self.rows, rank, vector)?;
         Ok(())
     }
-}
-
-// The row of a number, if there are so many.
-fn row_of<C: Coding>(rows: &[C], number: usize) -> Result<C, Refusal> {
-    if number >= rows.len() {
-        return Err(Refusal::NumberOutOfRange);
-    }
-    Ok(rows[number])
 }
 
 // Whether a vector has a digit other than 0 at a place or above it.

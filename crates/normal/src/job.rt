@@ -1,103 +1,74 @@
-// The job: takes each value line of a sheet into a basis, and shows the names line and the rows.
+// The job: takes each value line of a sheet into a basis, and writes the names and the rows as a sheet.
 use crate::bases::Basis;
-use crate::faults::Fault;
-use crate::faults::FaultDisplay;
-use crate::faults::Layer;
-use crate::sheets::Sheet;
-use crate::sheets::Values;
 use coding::Coding;
 use coding::Refusal;
+use coding::Ternary;
 use codings::Planes;
 use codings::PlanesCoding;
+use codings::PlanesTernary;
+use sheet::Fault;
+use sheet::Layer;
+use sheet::Opened;
+use sheet::open;
+use sheet::write;
 use std::alloc::AllocError;
 use std::alloc::Global;
-use std::fmt;
 
-// What is printed of a text: the form of its sheet, or why it is refused.
-pub fn answer(heap: Global, text: &[u8]) -> Result<String, AllocError> {
+// Writes the form of the sheet's rows into the output as a sheet, and gives its length.
+pub fn normal(text: &[u8], output: &mut [u8]) -> Result<usize, Fault> {
+    let sheet = open(text)?;
     let mut rows = [Planes::zero(); 64];
-    match normal_form(text, &mut rows) {
-        Ok(form) => form.to_string(heap),
-        Err(fault) => fault.to_string(heap),
-    }
+    let rank = form(&sheet, text.len(), &mut rows)?;
+    at_end(write_first(&sheet, &rows, rank, output), text.len())
 }
 
-// A sheet's names line and the basis of its value lines.
-#[derive(Drop)]
-pub struct Form<'t, 'r, C: Coding> {
-    head: &'t [u8],
-    basis: Basis<'r, C>,
-}
-
-// The form of a sheet, in rows that the caller lends.
-pub fn normal_form<'t, 'r, C: Coding>(
-    text: &'t [u8],
-    rows: &'r mut [C],
-) -> Result<Form<'t, 'r, C>, Fault> {
-    let sheet = Sheet::open(text)?;
-    let mut basis = at_end(Basis::make(rows, sheet.names()), text)?;
+// Takes the value lines in, in their order, in rows that are lent, and gives the rank.
+fn form<C: Ternary>(sheet: &Opened, end: usize, rows: &mut [C]) -> Result<usize, Fault> {
+    let mut basis = at_end(Basis::make(rows, sheet.names()), end)?;
     for number in 0..sheet.lines() {
-        let values = sheet.line(number)?;
-        let vector = at_end(vector_of(&values), text)?;
-        at_end(basis.take_in(vector), text)?;
+        let vector: C = sheet.line(number)?;
+        at_end(basis.take_in(vector), end)?;
     }
-    Ok(Form {
-        head: sheet.head(),
-        basis,
-    })
+    Ok(basis.rank())
 }
 
-// The vector with the digits of a value line.
-fn vector_of<C: Coding>(values: &Values) -> Result<C, Refusal> {
-    let mut vector = C::zero();
-    for (place, digit) in values.digits().iter().enumerate() {
-        vector = vector.change(place, *digit)?;
+// Writes the sheet of the same names and the first rows.
+fn write_first<C: Ternary>(
+    sheet: &Opened,
+    rows: &[C],
+    count: usize,
+    output: &mut [u8],
+) -> Result<usize, Refusal> {
+    if count > rows.len() {
+        return Err(Refusal::TooLittleRoom);
     }
-    Ok(vector)
+    write(sheet.head(), &rows[0..count], output)
 }
 
 // A refusal that no byte of the text is to blame for is placed at its end.
-fn at_end<T>(result: Result<T, Refusal>, text: &[u8]) -> Result<T, Fault> {
+fn at_end<T>(result: Result<T, Refusal>, end: usize) -> Result<T, Fault> {
     match result {
         Ok(value) => Ok(value),
         Err(refusal) => Err(Fault {
             refusal,
             layer: Layer::Job,
-            place: text.len(),
+            place: end,
         }),
     }
 }
 
-// What is printed: the names line, then each row as digits with single blanks between them.
-pub impl<'t, 'r, C: Coding> fmt::Display for Form<'t, 'r, C> as FormDisplay {
-    fn fmt<W: fmt::Write>(&self, f: &mut fmt::Formatter<W>) -> fmt::Result {
-        for byte in self.head {
-            f.write_char(char::from(*byte))?;
-        }
-        for number in 0..self.basis.rank() {
-            match self.basis.row(number) {
-                Ok(row) => write_row(row, self.basis.length(), f)?,
-                Err(_) => return Err(fmt::Error),
-            }
-        }
-        Ok(())
-    }
+// The two printed lines of a fault: the names of its values, then the values.
+pub fn fault_lines(heap: Global, fault: Fault) -> Result<String, AllocError> {
+    let layer = fault.layer.word();
+    let refusal = fault.refusal.number();
+    let place = fault.place;
+    format!(heap, "layer refusal place\n{layer} {refusal} {place}\n")
 }
 
-// One row and its line end.
-fn write_row<C: Coding, W: fmt::Write>(
-    row: C,
-    length: usize,
-    f: &mut fmt::Formatter<W>,
-) -> fmt::Result {
-    for place in 0..length {
-        if place > 0 {
-            f.write_char(' ')?;
-        }
-        match row.digit(place) {
-            Ok(digit) => write!(f, "{digit}")?,
-            Err(_) => return Err(fmt::Error),
-        }
+// The first bytes of a text.
+pub fn first(text: &[u8], count: usize) -> &[u8] {
+    if count > text.len() {
+        return text;
     }
-    f.write_char('\n')
+    &text[0..count]
 }

@@ -1,9 +1,7 @@
-// What is printed of sheets, and of texts that are refused.
-use crate::job::answer;
-use crate::job::normal_form;
-use coding::Coding;
-use codings::Planes;
-use codings::PlanesCoding;
+// What is written of sheets, and printed of texts that are refused.
+use crate::job::fault_lines;
+use crate::job::first;
+use crate::job::normal;
 use std::alloc::Global;
 use std::test::*;
 
@@ -11,25 +9,28 @@ const NAMES_64: &str = "a b c d e f g h i j k l m n o p q r s t u v w x y z \
 a1 b1 c1 d1 e1 f1 g1 h1 i1 j1 k1 l1 m1 n1 o1 p1 q1 r1 s1 t1 u1 v1 w1 x1 y1 z1 \
 a2 b2 c2 d2 e2 f2 g2 h2 i2 j2 k2 l2\n";
 
-fn check_answer(heap: Global, text: &[u8], expected: &str) -> Result<(), Fail> {
-    let printed = answer(heap, text)?;
-    check_eq(printed.as_str(), expected)
+fn check_answer(text: &[u8], expected: &str) -> Result<(), Fail> {
+    let mut output = [b'?'; 300];
+    match normal(text, &mut output) {
+        Ok(length) => check_eq(first(&output, length), expected.as_bytes()),
+        Err(_) => Err(Fail::new("refused")),
+    }
 }
 
 fn check_fault(heap: Global, text: &[u8], values: &str) -> Result<(), Fail> {
     let expected = format!(heap, "layer refusal place\n{values}\n")?;
-    check_answer(heap, text, expected.as_str())
+    match normal(text, &mut [0; 300]) {
+        Ok(_) => Err(Fail::new("accepted")),
+        Err(fault) => check_eq(fault_lines(heap, fault)?.as_str(), expected.as_str()),
+    }
 }
 
 #[test]
-fn accepts(rt: LibcRuntime) -> Result<(), Fail> {
-    check_answer(
-        rt.alloc(),
-        b"a b c\n1 1 0\n0 1 1\n2 2 0\n",
-        "a b c\n1 0 2\n0 1 1\n",
-    )?;
-    check_answer(rt.alloc(), b"a b\n", "a b\n")?;
-    check_answer(rt.alloc(), NAMES_64.as_bytes(), NAMES_64)
+fn accepts() -> Result<(), Fail> {
+    check_answer(b"a b c\n1 1 0\n0 1 1\n2 2 0\n", "a b c\n1 0 2\n0 1 1\n")?;
+    check_answer(b"a b\n", "a b\n")?;
+    check_answer(b"a\n1\n2\n", "a\n1\n")?;
+    check_answer(NAMES_64.as_bytes(), NAMES_64)
 }
 
 #[test]
@@ -73,8 +74,14 @@ fn judges_the_length_first(rt: LibcRuntime) -> Result<(), Fail> {
 }
 
 #[test]
-fn needs_room_only_to_grow() -> Result<(), Fail> {
-    let mut rows = [Planes::zero(); 1];
-    check(normal_form(b"a\n1\n2\n", &mut rows).is_ok())?;
-    check(normal_form(b"a b\n1 2\n", &mut rows).is_err())
+fn needs_room(rt: LibcRuntime) -> Result<(), Fail> {
+    let mut output = [b'?'; 7];
+    match normal(b"a b\n1 2\n", &mut output) {
+        Ok(_) => Err(Fail::new("accepted")),
+        Err(fault) => {
+            let lines = fault_lines(rt.alloc(), fault)?;
+            check_eq(lines.as_str(), "layer refusal place\njob 8 8\n")?;
+            check_eq(&output[0..7], b"???????")
+        }
+    }
 }
