@@ -1,5 +1,7 @@
 // Mathematics: digits of a small field, vectors of them, the successor order, spaces and permanents. specs/ defines, proofs/ proves.
 // The only code is for the laws, which stand on functions of their own, and for the steps of the Gray code.
+#![tactic(auto)]
+
 mod permanents;
 mod spaces;
 

@@ -1,4 +1,6 @@
 // Bases of spaces of vectors, kept in normal form in rows that the caller lends, for every coding.
+#![tactic(auto)]
+
 mod bases;
 mod calls;
 mod checks;

@@ -1,4 +1,6 @@
 // Counts matrices by their permanents, through tallies, and prints the counts, the bounds of tallies and runs of calls.
+#![tactic(auto)]
+
 mod bounds;
 mod matrices;
 mod runs;

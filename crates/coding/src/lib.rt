@@ -1,4 +1,6 @@
 // Vectors of digits of a small field, known to all other code by the digits they mean, and the refusals of the whole library.
+#![tactic(auto)]
+
 mod lengths;
 mod refusals;
 mod vectors;

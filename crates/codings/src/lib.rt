@@ -1,4 +1,6 @@
 // The codings: each lays the digits of a vector into machine words in its own way.
+#![tactic(auto)]
+
 mod planes;
 mod signs;
 mod singles;

@@ -1,4 +1,6 @@
 // The worked figures: one table with one proof, and tests that run the calls on the same figures and at the bounds of bases, tallies and sheets.
+#![tactic(auto)]
+
 ghost use Rattle.std.specs.Prelude.{◌≡◌, length};
 ghost use Rattle.figures.specs.Table.{figures, Hold};
 

@@ -1,4 +1,6 @@
 // What the programs do, as library functions: their answers as bytes.
+#![tactic(auto)]
+
 mod faults;
 mod normals;
 mod outputs;

@@ -1,4 +1,6 @@
 // Finds the permanent of one matrix of size 26 in one share, and prints it.
+#![tactic(auto)]
+
 use coding::{Coding, Refusal};
 use codings::Planes;
 use std::io;

@@ -1,4 +1,6 @@
 // The three laws over whole runs of calls, together on one contract, for any two ternary codings.
+#![tactic(auto)]
+
 ghost use Rattle.std.specs.Prelude.{◌≡◌};
 ghost use Rattle.laws.specs.Runs.{Together};
 

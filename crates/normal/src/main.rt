@@ -1,4 +1,6 @@
 // Prints the reduced row echelon form, modulo 3, of a sheet that it reads from standard input.
+#![tactic(auto)]
+
 mod bases;
 mod job;
 #[cfg(test)]

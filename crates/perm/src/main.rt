@@ -1,4 +1,6 @@
 // Prints the size and the permanent, modulo 3, of the matrix of a sheet that it reads from standard input.
+#![tactic(auto)]
+
 #[cfg(test)]
 mod tests;
 

@@ -1,4 +1,6 @@
 // Runs the figures that are not proved, and prints them.
+#![tactic(auto)]
+
 mod bounds;
 mod engine;
 

@@ -1,4 +1,6 @@
 // Sheets: the text format that vectors arrive in, its reader and its writer.
+#![tactic(auto)]
+
 mod faults;
 mod sheets;
 mod texts;

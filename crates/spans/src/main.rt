@@ -1,4 +1,6 @@
 // Prints the lengths and duals that bases take at their bounds, and runs of calls compared.
+#![tactic(auto)]
+
 mod bases;
 mod runs;
 

@@ -1,4 +1,6 @@
 // The permanent of a square matrix modulo 3, in shares that are worked in any order and each counted exactly once.
+#![tactic(auto)]
+
 mod calls;
 mod shares;
 mod sizes;

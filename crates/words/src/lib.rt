@@ -1,4 +1,6 @@
 // Words of 64 bits, place by place. The lemmas that every coding cites on them are in proofs/.
+#![tactic(auto)]
+
 ghost use Rattle.std.specs.Prelude.{◌≡◌, ℕ, ◌<◌, ◌≤◌, if◌then◌else◌, count_ones, nat_eq, nat_lt};
 ghost use Rattle.words.specs.Bit.{bit};
 

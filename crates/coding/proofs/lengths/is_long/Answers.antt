@@ -10,8 +10,8 @@ loop-k-preserved g c k low high = elim (cases_eq k c.loop-k.k) [
   | inl here ↦
       same_digit _ _ (
       ap (λ (i : ℕ). value (g.C.Coding.meant c.args.vector i)) here
-      ∙ sym c.digit-at.ensures
-      ∙ c.if-digit-at-ne0.false
+      ∙ sym c.digit_at.ensures
+      ∙ c.if-digit_at-ne0.false
       ∙ sym g.C.Coding.field.nil_value
       )
   | inr before ↦ c.loop-k.invariant k low (omega arith)

@@ -30,7 +30,7 @@ returns-in-err-y g c = absurd (never_refused g c)
 follows : (g : _) (c : goal.In-Some g)
     → Follows g.C.Coding.field c.args.n (g.C.Coding.meant c.loop-y.x) (g.C.Coding.meant c.in-Some.y)
     × g.C.Coding.canonical c.in-Some.y
-follows g c = MatchOption-at_some _ _ c.in-Some.y c.in-Some.is c.in-ok-y.ensures.2
+follows g c = MatchOption-at_some _ _ c.in-Some.y c.in-Some.is c.in_ok-y.ensures.2
 
 below : (g : _) (c : goal.In-Some g) → c.loop-y.count < g.C.Coding.field.size ^ c.args.n
 below g c = next_below g.met.C.Ternary.three c.loop-y.invariant c.in-Some.y (follows g c).0
@@ -51,9 +51,9 @@ pub loop-y-preserved : goal.loop-y-preserved
 loop-y-preserved g c =
     begun_more g.met.C.Ternary.three c.loop-y.invariant c.in-Some.y (follows g c).0 (follows g c).1
 
-last : (g : _) (c : goal.In-default g) → Last g.C.Coding.field c.args.n (g.C.Coding.meant c.loop-y.x)
-last g c = MatchOption-at_none _ _ c.in-default.is c.in-ok-y.ensures.2
+last : (g : _) (c : goal.In_default g) → Last g.C.Coding.field c.args.n (g.C.Coding.meant c.loop-y.x)
+last g c = MatchOption-at_none _ _ c.in_default.is c.in_ok-y.ensures.2
 
 pub returns : goal.returns
 returns g c =
-    (c.in-ok-y.ensures.0, walked c.args.output.now c.zero-x.result g.met.C.Ternary.three c.loop-y.invariant (last g c))
+    (c.in_ok-y.ensures.0, walked c.args.output.now c.zero-x.result g.met.C.Ternary.three c.loop-y.invariant (last g c))
