@@ -8,11 +8,11 @@ use Rattle.basis.proofs.calls.apply.Goals as goal
 pub returns-in-TakeIn : goal.returns-in-TakeIn
 returns-in-TakeIn g c = record {
   stands = λ vs s. (
-    subst (λ call. Stands g.C.Coding.field g.C.Coding.width g.C.Coding.meant g.C.Coding.canonical c.take-in.new.self (after_call g.C.Coding.field g.C.Coding.width g.C.Coding.meant c.args.basis.now.sizes.length vs call)) (sym c.in-TakeIn.is)
-        (take_in_step g.C.Coding.field g.C.Coding.width g.C.Coding.meant g.C.Coding.canonical c.args.basis.now c.take-in.new.self c.in-TakeIn.vector c.take-in.result vs (g.met.C.Coding.beyond c.in-TakeIn.vector) c.take-in.ensures.answer c.take-in.ensures.refused (c.take-in.ensures.stands vs s) s),
+    subst (λ call. Stands g.C.Coding.field g.C.Coding.width g.C.Coding.meant g.C.Coding.canonical c.take_in.new.self (after_call g.C.Coding.field g.C.Coding.width g.C.Coding.meant c.args.basis.now.sizes.length vs call)) (sym c.in-TakeIn.is)
+        (take_in_step g.C.Coding.field g.C.Coding.width g.C.Coding.meant g.C.Coding.canonical c.args.basis.now c.take_in.new.self c.in-TakeIn.vector c.take_in.result vs (g.met.C.Coding.beyond c.in-TakeIn.vector) c.take_in.ensures.answer c.take_in.ensures.refused (c.take_in.ensures.stands vs s) s),
     refl,
   );
-  kept = c.take-in.ensures.kept;
+  kept = c.take_in.ensures.kept;
 }
 
 pub returns-in-Clear : goal.returns-in-Clear

@@ -18,11 +18,11 @@ loop-i-preserved g c = (
       subst (λ x. lead_in g.C.Coding.field g.C.Coding.width (g.C.Coding.meant x) < g.C.Coding.width) (sym c.index-rows-i.is)
       (each_at g.C.Coding.field g.C.Coding.width g.C.Coding.meant (λ r. r.lead < g.C.Coding.width) c.args.rows.now leads c.loop-i.i c.index-rows-i.result c.loop-i-test.true) in
       let digit : value (g.C.Coding.meant c.index-rows-i.result c.args.place) < g.C.Coding.field.size = (g.C.Coding.meant c.index-rows-i.result c.args.place).1 in
-      dual_more g.C.Coding.field g.C.Coding.width g.C.Coding.meant c.args.rows.now c.loop-i.i c.args.place c.digit-at.result c.index-rows-i.result
-      (g.C.Coding.meant c.loop-i.vector) (g.C.Coding.meant c.unit-at-lead.result) (g.C.Coding.meant c.multiple.result) (g.C.Coding.meant c.difference-vector.result)
-      c.loop-i-test.true c.index-rows-i.is (c.loop-i.invariant.0 h leads) c.digit-at.ensures
-      (λ k. c.unit-at-lead.ensures.digits (omega (arith, lead, c.lead-place.ensures)) k ∙ ap (λ p. unit g.C.Coding.field p k) c.lead-place.ensures)
-      (c.multiple.ensures.digits (omega (arith, digit, c.digit-at.ensures))) c.difference-vector.ensures.digits),
+      dual_more g.C.Coding.field g.C.Coding.width g.C.Coding.meant c.args.rows.now c.loop-i.i c.args.place c.digit_at.result c.index-rows-i.result
+      (g.C.Coding.meant c.loop-i.vector) (g.C.Coding.meant c.unit-at_lead.result) (g.C.Coding.meant c.multiple.result) (g.C.Coding.meant c.difference-vector.result)
+      c.loop-i-test.true c.index-rows-i.is (c.loop-i.invariant.0 h leads) c.digit_at.ensures
+      (λ k. c.unit-at_lead.ensures.digits (omega (arith, lead, c.lead_place.ensures)) k ∙ ap (λ p. unit g.C.Coding.field p k) c.lead_place.ensures)
+      (c.multiple.ensures.digits (omega (arith, digit, c.digit_at.ensures))) c.difference-vector.ensures.digits),
   c.difference-vector.ensures.stored,
 )
 

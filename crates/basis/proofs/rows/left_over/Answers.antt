@@ -10,8 +10,8 @@ loop-i-init g c = (refl, c.sum-left.ensures.stored)
 
 pub loop-i-preserved : goal.loop-i-preserved
 loop-i-preserved g c = (
-  reduced_more g.C.Coding.field g.C.Coding.width g.C.Coding.meant c.args.rows.now c.loop-i.i c.lead-place.result (g.C.Coding.meant c.sum-left.result) (g.C.Coding.meant c.loop-i.left) (g.C.Coding.meant c.cleared-left.result)
-      c.index-rows-i.result (omega arith) c.index-rows-i.is c.lead-place.ensures c.loop-i.invariant.0 c.cleared-left.ensures.digits,
+  reduced_more g.C.Coding.field g.C.Coding.width g.C.Coding.meant c.args.rows.now c.loop-i.i c.lead_place.result (g.C.Coding.meant c.sum-left.result) (g.C.Coding.meant c.loop-i.left) (g.C.Coding.meant c.cleared-left.result)
+      c.index-rows-i.result (omega arith) c.index-rows-i.is c.lead_place.ensures c.loop-i.invariant.0 c.cleared-left.ensures.digits,
   c.cleared-left.ensures.stored,
 )
 

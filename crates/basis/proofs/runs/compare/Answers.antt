@@ -6,27 +6,27 @@ use Rattle.basis.specs.Form.{Rows}
 use Rattle.basis.proofs.Comparing.{compared, never_short}
 use Rattle.basis.proofs.runs.compare.Goals as goal
 
-pub returns-in-err-check-digits : goal.returns-in-err-check-digits
-returns-in-err-check-digits g c vs s is room first second long-first long-second =
-    absurd (never_short g.C.Coding.field g.C.Coding.width g.C.Coding.meant g.C.Coding.canonical c.args.basis.now.sizes.length c.args.n c.args.basis.now.sizes.rank vs c.args.scratch.now c.dual.new.output c.in-ok-count.count c.first-of-dual.result.now (length c.args.first-digits.now)
-    is (c.in-ok-count.ensures.stands vs s) c.first-of-dual.ensures first c.in-err-check-digits.ensures.1)
+pub returns-in_err-check_digits : goal.returns-in_err-check_digits
+returns-in_err-check_digits g c vs s is room first second long-first long-second =
+    absurd (never_short g.C.Coding.field g.C.Coding.width g.C.Coding.meant g.C.Coding.canonical c.args.basis.now.sizes.length c.args.n c.args.basis.now.sizes.rank vs c.args.scratch.now c.dual.new.output c.in_ok-count.count c.first_of-dual.result.now (length c.args.first_digits.now)
+    is (c.in_ok-count.ensures.stands vs s) c.first_of-dual.ensures first c.in_err-check_digits.ensures.1)
 
-pub returns-in-err-check-digits-2 : goal.returns-in-err-check-digits-2
-returns-in-err-check-digits-2 g c vs s is room first second long-first long-second =
-    absurd (never_short g.C.Coding.field g.C.Coding.width g.C.Coding.meant g.C.Coding.canonical c.args.basis.now.sizes.length c.args.n c.args.basis.now.sizes.rank vs c.args.scratch.now c.dual.new.output c.in-ok-count.count c.first-of-dual.result.now (length c.args.second-digits.now)
-    is (c.in-ok-count.ensures.stands vs s) c.first-of-dual.ensures second c.in-err-check-digits-2.ensures.1)
+pub returns-in_err-check_digits-2 : goal.returns-in_err-check_digits-2
+returns-in_err-check_digits-2 g c vs s is room first second long-first long-second =
+    absurd (never_short g.C.Coding.field g.C.Coding.width g.C.Coding.meant g.C.Coding.canonical c.args.basis.now.sizes.length c.args.n c.args.basis.now.sizes.rank vs c.args.scratch.now c.dual.new.output c.in_ok-count.count c.first_of-dual.result.now (length c.args.second_digits.now)
+    is (c.in_ok-count.ensures.stands vs s) c.first_of-dual.ensures second c.in_err-check_digits-2.ensures.1)
 
 pub returns : goal.returns
 returns g c vs s is room first second long-first long-second =
     compared g.C.Coding.field g.C.Coding.width g.C.Coding.meant g.C.Coding.canonical c.args.n c.args.basis.now.sizes.rank c.args.basis.now.rows.now vs
     (subst (λ k. Rows g.C.Coding.field g.C.Coding.width g.C.Coding.meant g.C.Coding.canonical k c.args.basis.now.sizes.rank c.args.basis.now.rows.now vs) is s.rows)
-    (g.C.Coding.meant c.args.first) (g.C.Coding.meant c.args.second) long-first long-second c.args.scratch.now c.dual.new.output c.in-ok-count.count
-    (subst (λ k. WroteDual g.C.Coding.field g.C.Coding.width g.C.Coding.meant g.C.Coding.canonical k c.args.basis.now.sizes.rank vs c.args.scratch.now c.dual.new.output c.in-ok-count.count) is (c.in-ok-count.ensures.stands vs s))
-    c.args.first-digits.now c.check-digits.new.output c.args.second-digits.now c.check-digits-2.new.output
-    (subst (λ rows. (take (length rows) c.check-digits.new.output ≡ check_digits_of g.C.Coding.field g.C.Coding.width g.C.Coding.meant rows (g.C.Coding.meant c.args.first)) × (drop (length rows) c.check-digits.new.output ≡ drop (length rows) c.args.first-digits.now)) c.first-of-dual.ensures c.in-ok-check-digits.ensures)
-    (subst (λ rows. (take (length rows) c.check-digits-2.new.output ≡ check_digits_of g.C.Coding.field g.C.Coding.width g.C.Coding.meant rows (g.C.Coding.meant c.args.second)) × (drop (length rows) c.check-digits-2.new.output ≡ drop (length rows) c.args.second-digits.now)) c.first-of-dual.ensures c.in-ok-check-digits-2.ensures)
-    c.same-bytes.result (subst₂ (λ a b. Decides c.same-bytes.result (a ≡ b)) c.first-of.ensures c.first-of-2.ensures c.same-bytes.ensures)
-    (g.C.Coding.meant c.in-ok-left.left) (g.C.Coding.meant c.in-ok-right.right)
-    (subst (λ k. Remains g.C.Coding.field k (rows_in g.C.Coding.field g.C.Coding.width g.C.Coding.meant (take c.args.basis.now.sizes.rank c.args.basis.now.rows.now)) vs (g.C.Coding.meant c.args.first) (g.C.Coding.meant c.in-ok-left.left)) is (c.in-ok-left.ensures.stands vs s))
-    (subst (λ k. Remains g.C.Coding.field k (rows_in g.C.Coding.field g.C.Coding.width g.C.Coding.meant (take c.args.basis.now.sizes.rank c.args.basis.now.rows.now)) vs (g.C.Coding.meant c.args.second) (g.C.Coding.meant c.in-ok-right.right)) is (c.in-ok-right.ensures.stands vs s))
-    c.same-digits.result c.same-digits.ensures
+    (g.C.Coding.meant c.args.first) (g.C.Coding.meant c.args.second) long-first long-second c.args.scratch.now c.dual.new.output c.in_ok-count.count
+    (subst (λ k. WroteDual g.C.Coding.field g.C.Coding.width g.C.Coding.meant g.C.Coding.canonical k c.args.basis.now.sizes.rank vs c.args.scratch.now c.dual.new.output c.in_ok-count.count) is (c.in_ok-count.ensures.stands vs s))
+    c.args.first_digits.now c.check_digits.new.output c.args.second_digits.now c.check_digits-2.new.output
+    (subst (λ rows. (take (length rows) c.check_digits.new.output ≡ check_digits_of g.C.Coding.field g.C.Coding.width g.C.Coding.meant rows (g.C.Coding.meant c.args.first)) × (drop (length rows) c.check_digits.new.output ≡ drop (length rows) c.args.first_digits.now)) c.first_of-dual.ensures c.in_ok-check_digits.ensures)
+    (subst (λ rows. (take (length rows) c.check_digits-2.new.output ≡ check_digits_of g.C.Coding.field g.C.Coding.width g.C.Coding.meant rows (g.C.Coding.meant c.args.second)) × (drop (length rows) c.check_digits-2.new.output ≡ drop (length rows) c.args.second_digits.now)) c.first_of-dual.ensures c.in_ok-check_digits-2.ensures)
+    c.same_bytes.result (subst₂ (λ a b. Decides c.same_bytes.result (a ≡ b)) c.first_of.ensures c.first_of-2.ensures c.same_bytes.ensures)
+    (g.C.Coding.meant c.in_ok-left.left) (g.C.Coding.meant c.in_ok-right.right)
+    (subst (λ k. Remains g.C.Coding.field k (rows_in g.C.Coding.field g.C.Coding.width g.C.Coding.meant (take c.args.basis.now.sizes.rank c.args.basis.now.rows.now)) vs (g.C.Coding.meant c.args.first) (g.C.Coding.meant c.in_ok-left.left)) is (c.in_ok-left.ensures.stands vs s))
+    (subst (λ k. Remains g.C.Coding.field k (rows_in g.C.Coding.field g.C.Coding.width g.C.Coding.meant (take c.args.basis.now.sizes.rank c.args.basis.now.rows.now)) vs (g.C.Coding.meant c.args.second) (g.C.Coding.meant c.in_ok-right.right)) is (c.in_ok-right.ensures.stands vs s))
+    c.same_digits.result c.same_digits.ensures

@@ -17,15 +17,15 @@ pub loop-y-init : goal.loop-y-init
 loop-y-init g c =
     begun g.C.Coding.field g.C.Coding.meant g.C.Coding.canonical c.args.n c.zero-x.result c.args.output.now (room g c) c.zero-x.ensures.digits c.zero-x.ensures.stored
 
-never_refused : (g : _) (c : goal.After-from-residual g) → ⊥
+never_refused : (g : _) (c : goal.After-from_residual g) → ⊥
 never_refused g c =
-    elim c.in-err-y.ensures [
+    elim c.in_err-y.ensures [
       | inl r ↦ elim r.1 [ inl e ↦ c.if-n-eq0.false e | inr l ↦ omega (arith, c.width.ensures, c.if-n-width.false) ]
       | inr r ↦ r.2 c.loop-y.invariant.long
     ]
 
-pub returns-in-err-y : goal.returns-in-err-y
-returns-in-err-y g c = absurd (never_refused g c)
+pub returns-in_err-y : goal.returns-in_err-y
+returns-in_err-y g c = absurd (never_refused g c)
 
 follows : (g : _) (c : goal.In-Some g)
     → Follows g.C.Coding.field c.args.n (g.C.Coding.meant c.loop-y.x) (g.C.Coding.meant c.in-Some.y)
@@ -38,11 +38,11 @@ below g c = next_below g.met.C.Ternary.three c.loop-y.invariant c.in-Some.y (fol
 pub bounds-output-count : goal.bounds-output-count
 bounds-output-count g c = omega (arith, below g c, c.loop-y.invariant.room)
 
-pub offset-bounds-output-count : goal.offset-bounds-output-count
-offset-bounds-output-count g c = let h = bounds-output-count g c in search rules
+pub offset_bounds-output-count : goal.offset_bounds-output-count
+offset_bounds-output-count g c = let h = bounds-output-count g c in search rules
 
-pub overflow-add-count : goal.overflow-add-count
-overflow-add-count g c = let h = bounds-output-count g c in search rules
+pub overflow_add-count : goal.overflow_add-count
+overflow_add-count g c = let h = bounds-output-count g c in search rules
 
 pub loop-y-smaller : goal.loop-y-smaller
 loop-y-smaller g c = omega (arith, below g c)

@@ -21,8 +21,8 @@ loop-i-preserved g c =
 pub loop-row-init : goal.loop-row-init
 loop-row-init g c = (λ j h. c.loop-i.invariant.0 j (omega (arith, c.width-width.ensures)), refl)
 
-pub offset-bounds-counts-weight : goal.offset-bounds-counts-weight
-offset-bounds-counts-weight g c =
+pub offset_bounds-counts-weight : goal.offset_bounds-counts-weight
+offset_bounds-counts-weight g c =
     let low = weight_most g.C.Coding.field g.C.Coding.width (g.C.Coding.meant c.row-item.result) in
     omega (arith, low, c.weight-weight.ensures, g.met.C.Coding.wide)
 
@@ -36,8 +36,8 @@ bounds-counts-weight-in-loop-row g c =
     let low = weight_most g.C.Coding.field g.C.Coding.width (g.C.Coding.meant c.row-item.result) in
     omega (arith, low, c.weight-weight.ensures, c.width-width.ensures)
 
-pub overflow-add-counts : goal.overflow-add-counts
-overflow-add-counts g c =
+pub overflow_add-counts : goal.overflow_add-counts
+overflow_add-counts g c =
     let w = c.weight-weight.result in
     let low = weight_most g.C.Coding.field g.C.Coding.width (g.C.Coding.meant c.row-item.result) in
     let counted = c.loop-row.invariant.0 w (omega (arith, low, c.weight-weight.ensures)) in

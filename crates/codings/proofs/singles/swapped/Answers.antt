@@ -6,4 +6,4 @@ use Rattle.codings.proofs.singles.swapped.Goals as goal
 pub returns : goal.returns
 returns c =
     let n = c.args.word in
-    subst (λ r. Halves r (lower n) (upper n)) (sym c.rotate-left.ensures) (beside n (upper n) (omega arith))
+    subst (λ r. Halves r (lower n) (upper n)) (sym c.rotate_left.ensures) (beside n (upper n) (omega arith))

@@ -6,8 +6,8 @@ use Rattle.jobs.proofs.normals.normal.Goals as goal
 
 pub returns : goal.returns
 returns c =
-    let o = c.in-ok-sheet.ensures in
+    let o = c.in_ok-sheet.ensures in
     let most : length o.names ≤ 64 = o.describes.sheet.names_rule.most in
-    let done = written_out 64 meant_by Canonical (omega arith) c.args.text.now c.in-ok-sheet.sheet o c.head.result.now c.head.ensures
-    c.in-ok-rank.rank c.form.new.rows (c.in-ok-rank.ensures o.names o.rows o.describes most most) c.args.output.now c.write.new.output c.write.result c.write.ensures in
-    rw c.at-end.ensures done
+    let done = written_out 64 meant_by Canonical (omega arith) c.args.text.now c.in_ok-sheet.sheet o c.head.result.now c.head.ensures
+    c.in_ok-rank.rank c.form.new.rows (c.in_ok-rank.ensures o.names o.rows o.describes most most) c.args.output.now c.write.new.output c.write.result c.write.ensures in
+    rw c.at_end.ensures done

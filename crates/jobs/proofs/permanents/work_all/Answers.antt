@@ -8,5 +8,5 @@ use Rattle.jobs.proofs.permanents.work_all.Goals as goal
 pub returns : goal.returns
 returns g c m =
     all_worked g.C.Coding.field g.C.Coding.width g.C.Coding.meant c.args.size c.args.rows.now m
-    c.most-splits.result c.most-splits.ensures.0 c.most-splits.ensures.1 c.all-shares-calls.result c.all-shares-calls.ensures
-    (HoldsAt (λ x. g.C.Coding.meant x ≡ zeros g.C.Coding.field) c.result-after.new.rows c.args.size) (c.result-after.new.rows ≡ c.args.rows.now) c.result-after.result c.result-after.ensures.answer
+    c.most_splits.result c.most_splits.ensures.0 c.most_splits.ensures.1 c.all_shares-calls.result c.all_shares-calls.ensures
+    (HoldsAt (λ x. g.C.Coding.meant x ≡ zeros g.C.Coding.field) c.result_after.new.rows c.args.size) (c.result_after.new.rows ≡ c.args.rows.now) c.result_after.result c.result_after.ensures.answer

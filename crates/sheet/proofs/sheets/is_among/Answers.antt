@@ -12,11 +12,11 @@ pub loop-init : goal.loop-init
 loop-init c names rest h n e = (e, λ k l. absurd (omega arith))
 
 -- the names walked are names, so the next is found
-pub returns-in-default : goal.returns-in-default
-returns-in-default c names rest h n e =
+pub returns-in_default : goal.returns-in_default
+returns-in_default c names rest h n e =
     let s = c.loop.invariant names rest h n e in
     let l : c.loop.counter < length names = omega (arith, c.loop-test.true) in
-    absurd (c.in-default.ensures (get_or names c.loop.counter []) _ false (All-get_or Name names c.loop.counter [] l h) (name_again names c.loop.counter rest _ l s.0))
+    absurd (c.in_default.ensures (get_or names c.loop.counter []) _ false (All-get_or Name names c.loop.counter [] l h) (name_again names c.loop.counter rest _ l s.0))
 
 pub returns-then-eq : goal.returns-then-eq
 returns-then-eq c names rest h n e =

@@ -6,29 +6,29 @@ use Rattle.sheet.proofs.sheets.names_line.Goals as goal
 pub loop-count-init : goal.loop-count-init
 loop-count-init c = walked_none c.args.text.now
 
-pub returns-in-err-name : goal.returns-in-err-name
-returns-in-err-name c =
-    rw c.from-residual.ensures
-    (none_without_name c.args.text.now c.loop-count.count c.loop-count.next c.loop-count.invariant c.in-err-name.ensures)
+pub returns-in_err-name : goal.returns-in_err-name
+returns-in_err-name c =
+    rw c.from_residual.ensures
+    (none_without_name c.args.text.now c.loop-count.count c.loop-count.next c.loop-count.invariant c.in_err-name.ensures)
 
-pub returns-then-is-among : goal.returns-then-is-among
-returns-then-is-among c =
+pub returns-then-is_among : goal.returns-then-is_among
+returns-then-is_among c =
     let s = c.loop-count.invariant in
-    none_with_repeat c.args.text.now c.loop-count.count c.loop-count.next s c.in-ok-name.name c.in-ok-name.ensures
-    ((c.is-among.ensures s.names _ s.each s.many s.text_is).0 c.if-is-among.true)
+    none_with_repeat c.args.text.now c.loop-count.count c.loop-count.next s c.in_ok-name.name c.in_ok-name.ensures
+    ((c.is_among.ensures s.names _ s.each s.many s.text_is).0 c.if-is_among.true)
 
 pub returns-then-name : goal.returns-then-name
 returns-then-name c =
     let s = c.loop-count.invariant in
-    headed c.args.text.now c.loop-count.count c.loop-count.next s c.in-ok-name.name c.in-ok-name.ensures
-    (λ k l e. both_ways c.is-among.result c.if-is-among.false ((c.is-among.ensures s.names _ s.each s.many s.text_is).1 (k, l, e)))
+    headed c.args.text.now c.loop-count.count c.loop-count.next s c.in_ok-name.name c.in_ok-name.ensures
+    (λ k l e. both_ways c.is_among.result c.if-is_among.false ((c.is_among.ensures s.names _ s.each s.many s.text_is).1 (k, l, e)))
     c.loop-count-test.true c.if-name.true
 
 pub loop-count-preserved : goal.loop-count-preserved
 loop-count-preserved c =
     let s = c.loop-count.invariant in
-    walked_more c.args.text.now c.loop-count.count c.loop-count.next s c.in-ok-name.name c.in-ok-name.ensures
-    (λ k l e. both_ways c.is-among.result c.if-is-among.false ((c.is-among.ensures s.names _ s.each s.many s.text_is).1 (k, l, e)))
+    walked_more c.args.text.now c.loop-count.count c.loop-count.next s c.in_ok-name.name c.in_ok-name.ensures
+    (λ k l e. both_ways c.is_among.result c.if-is_among.false ((c.is_among.ensures s.names _ s.each s.many s.text_is).1 (k, l, e)))
     c.if-name.false
 
 pub returns : goal.returns

@@ -5,37 +5,37 @@ use Rattle.std.proofs.lemmas.Result.{err_from_is_err_and}
 use Rattle.sheet.proofs.Wholes.{text_fault, headed_fits, bad_values, sheet, head_is, only}
 use Rattle.sheet.proofs.sheets.open.Goals as goal
 
-pub returns-in-err-judge : goal.returns-in-err-judge
-returns-in-err-judge c =
-    let p = err_from_is_err_and c.from-residual.result c.from-residual.ensures.1 in
-    rw (p.1, p.2) (inl c.in-err-judge.ensures, text_fault c.args.text.now c.in-err-judge.field-0.0 c.in-err-judge.ensures)
+pub returns-in_err-judge : goal.returns-in_err-judge
+returns-in_err-judge c =
+    let p = err_from_is_err_and c.from_residual.result c.from_residual.ensures.1 in
+    rw (p.1, p.2) (inl c.in_err-judge.ensures, text_fault c.args.text.now c.in_err-judge.field-0.0 c.in_err-judge.ensures)
 
-pub value-lines-requires : goal.value-lines-requires
+pub value-lines-requires : goal.value_lines-requires
 value-lines-requires c = headed_fits c.args.text.now c.in-Some.head c.in-Some.ensures
 
-pub returns-in-err-lines : goal.returns-in-err-lines
-returns-in-err-lines c =
-    let p = err_from_is_err_and c.from-residual-in-err-lines.result c.from-residual-in-err-lines.ensures.1 in
-    let j = c.in-ok-judge.ensures in
-    rw (p.1, p.2) (bad_values c.args.text.now c.in-Some.head c.in-Some.ensures c.in-err-lines.field-0.0 j.0 j.1 c.in-err-lines.ensures)
+pub returns-in_err-lines : goal.returns-in_err-lines
+returns-in_err-lines c =
+    let p = err_from_is_err_and c.from_residual-in_err-lines.result c.from_residual-in_err-lines.ensures.1 in
+    let j = c.in_ok-judge.ensures in
+    rw (p.1, p.2) (bad_values c.args.text.now c.in-Some.head c.in-Some.ensures c.in_err-lines.field-0.0 j.0 j.1 c.in_err-lines.ensures)
 
 pub returns : goal.returns
 returns c =
     let h = c.in-Some.ensures in
-    let l = c.in-ok-lines.ensures in
+    let l = c.in_ok-lines.ensures in
     record {
       text_is = refl;
       names = h.names;
       rows = l.rows;
       describes = record {
-        sheet = sheet c.args.text.now c.in-Some.head h c.in-ok-lines.lines c.in-ok-judge.ensures.0 l;
+        sheet = sheet c.args.text.now c.in-Some.head h c.in_ok-lines.lines c.in_ok-judge.ensures.0 l;
         head_is = head_is c.args.text.now c.in-Some.head h;
         names_are = h.count;
         rows_are = sym l.many;
       };
-      only = only c.args.text.now c.in-Some.head h c.in-ok-lines.lines l;
+      only = only c.args.text.now c.in-Some.head h c.in_ok-lines.lines l;
     }
 
-pub slice-bounds-result-end : goal.slice-bounds-result-end
-slice-bounds-result-end c =
+pub slice_bounds-result-end : goal.slice_bounds-result-end
+slice_bounds-result-end c =
     sym (length-take-le c.in-Some.head.end c.args.text.now (headed_fits c.args.text.now c.in-Some.head c.in-Some.ensures).1)

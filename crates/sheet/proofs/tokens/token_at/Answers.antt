@@ -5,11 +5,11 @@ use Rattle.sheet.proofs.Splits.{word_between}
 use Rattle.sheet.proofs.tokens.token_at.Goals as goal
 use Rattle.sheet.proofs.tokens.token_at.Goals.{in-Letter, in-Blank, in-LineEnd}
 
-found : (c : goal.Joined-kind-of) → IsToken c.args.text.now c.args.place c.match-kind-of.token
+found : (c : goal.Joined-kind_of) → IsToken c.args.text.now c.args.place c.match-kind_of.token
 found c =
-    elim c.match-kind-of.branch [
+    elim c.match-kind_of.branch [
       | in-Letter w ↦ subst (IsToken c.args.text.now c.args.place) (sym w.token-is)
-          (word_between c.args.text.now c.args.place w.word-end.result w.word-end.ensures.within.0 w.word-end.ensures.within.1 w.word-end.ensures.word w.word-end.ensures.ends)
+          (word_between c.args.text.now c.args.place w.word_end.result w.word_end.ensures.within.0 w.word_end.ensures.within.1 w.word_end.ensures.word w.word_end.ensures.ends)
       | in-Blank w ↦ subst (IsToken c.args.text.now c.args.place) (sym w.token-is) w.in-Blank.ensures
       | in-LineEnd w ↦ subst (IsToken c.args.text.now c.args.place) (sym w.token-is) w.in-LineEnd.ensures
     ]

@@ -10,8 +10,8 @@ loop-k-init g c = sym (put_none c.args.place c.args.output.now)
 
 pub loop-k-preserved : goal.loop-k-preserved
 loop-k-preserved g c =
-    figures_more (λ k. value (g.C.Coding.meant c.args.row k)) c.args.place c.args.output.now c.loop-k.k c.digit-at.result c.loop-k.output
-    (omega (arith, c.requires.room, c.loop-k-test.true)) c.digit-at.ensures c.loop-k.invariant
+    figures_more (λ k. value (g.C.Coding.meant c.args.row k)) c.args.place c.args.output.now c.loop-k.k c.digit_at.result c.loop-k.output
+    (omega (arith, c.requires.room, c.loop-k-test.true)) c.digit_at.ensures c.loop-k.invariant
 
 pub returns : goal.returns
 returns g c =

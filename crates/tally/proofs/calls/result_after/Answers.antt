@@ -8,8 +8,8 @@ use Rattle.tally.proofs.calls.result_after.Goals as goal
 
 pub returns : goal.returns
 returns g c =
-    let end = c.apply-all.new.tally in
-    let t = ended g.C.Coding.field g.C.Coding.width g.C.Coding.meant c.args.rows.now c.args.size c.args.splits c.make-tally.result end c.args.calls.now c.make-tally.ensures.made c.apply-all.ensures.stands c.apply-all.ensures.kept c.result.result
+    let end = c.apply_all.new.tally in
+    let t = ended g.C.Coding.field g.C.Coding.width g.C.Coding.meant c.args.rows.now c.args.size c.args.splits c.make-tally.result end c.args.calls.now c.make-tally.ensures.made c.apply_all.ensures.stands c.apply_all.ensures.kept c.result.result
     (λ d. AllBooked end.sizes.splits (λ k. is_booked (get_or end.table.entries k Empty)) × (d ≡ total_of end.sizes.splits end.table.entries))
     (λ e. (number_of e ≡ 15) × Missing end.sizes.splits (λ k. is_booked (get_or end.table.entries k Empty)))
     c.result.ensures.answer c.result.ensures.stands in

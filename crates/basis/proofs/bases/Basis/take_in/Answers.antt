@@ -11,10 +11,10 @@ grown_is_not_known e = let z : ◌≡◌ {A = ℕ} 103 107 = ap (λ w. get_or w 
 
 pub returns-in-Known : goal.returns-in-Known
 returns-in-Known g c =
-    let long = c.if-not-is-long.ensures.0 refl in
+    let long = c.if-not-is_long.ensures.0 refl in
     let same = c.in-Known.ensures.moved in
     record {
-      answer = simp c.in-ok-made.ensures long;
+      answer = simp c.in_ok-made.ensures long;
       refused = tt;
       known = λ _. record { rows = same; sizes = refl; void = refl };
       stands = λ vs s.
@@ -25,10 +25,10 @@ returns-in-Known g c =
 
 pub returns-in-Grown : goal.returns-in-Grown
 returns-in-Grown g c =
-    let long = c.if-not-is-long.ensures.0 refl in
+    let long = c.if-not-is_long.ensures.0 refl in
     let moved = c.in-Grown.ensures.moved in
     record {
-      answer = simp c.in-ok-made.ensures long;
+      answer = simp c.in_ok-made.ensures long;
       refused = tt;
       known = λ e. absurd (grown_is_not_known e);
       stands = λ vs s.
@@ -39,10 +39,10 @@ returns-in-Grown g c =
 
 pub returns-in-Full : goal.returns-in-Full
 returns-in-Full g c =
-    let long = c.if-not-is-long.ensures.0 refl in
+    let long = c.if-not-is_long.ensures.0 refl in
     let moved = c.in-Full.ensures.moved in
     record {
-      answer = simp c.in-ok-made.ensures (inr (refl, long, moved.0));
+      answer = simp c.in_ok-made.ensures (inr (refl, long, moved.0));
       refused = record { rows = moved.1; sizes = refl; void = refl };
       known = tt;
       stands = λ vs s. absurd (never_full _ _ _ s.rows.room (c.in-Full.ensures.stands c.args.self.now.sizes.length vs long s.rows.form).1 moved.0);

@@ -12,7 +12,7 @@ use Rattle.codings.proofs.planes.PlanesTernary.next.Goals as goal
 pub returns-then-v1-v2-ne0 : goal.returns-then-v1-v2-ne0
 returns-then-v1-v2-ne0 c =
     let v : FullWords 64 c.read-v1.result.0 c.read-v1.result.1 = record { full = c.read-v1.ensures.full; fits1 = search rules; fits2 = search rules } in
-    let low : Low 64 c.args.n c.below-low.result = record { most = c.if-n-gt64.false; fits = c.below-low.type-inv; bits = c.below-low.ensures } in
+    let low : Low 64 c.args.n c.below-low.result = record { most = c.if-n-gt64.false; fits = c.below-low.type_inv; bits = c.below-low.ensures } in
     let same = fun_ext c.read-v1.ensures.digits in
     inr (
       refl,
@@ -23,7 +23,7 @@ returns-then-v1-v2-ne0 c =
 pub returns-then-v2-low-eq0 : goal.returns-then-v2-low-eq0
 returns-then-v2-low-eq0 c =
     let v : FullWords 64 c.read-v1.result.0 c.read-v1.result.1 = record { full = c.read-v1.ensures.full; fits1 = search rules; fits2 = search rules } in
-    let low : Low 64 c.args.n c.below-low.result = record { most = c.if-n-gt64.false; fits = c.below-low.type-inv; bits = c.below-low.ensures } in
+    let low : Low 64 c.args.n c.below-low.result = record { most = c.if-n-gt64.false; fits = c.below-low.type_inv; bits = c.below-low.ensures } in
     let same = fun_ext c.read-v1.ensures.digits in (
       record { some = omega arith; most = low.most },
       subst (Long f3 c.args.n) same (long_is low v c.if-v1-v2-ne0.false),
@@ -33,7 +33,7 @@ returns-then-v2-low-eq0 c =
 pub returns : goal.returns
 returns c =
     let v : FullWords 64 c.read-v1.result.0 c.read-v1.result.1 = record { full = c.read-v1.ensures.full; fits1 = search rules; fits2 = search rules } in
-    let low : Low 64 c.args.n c.below-low.result = record { most = c.if-n-gt64.false; fits = c.below-low.type-inv; bits = c.below-low.ensures } in
+    let low : Low 64 c.args.n c.below-low.result = record { most = c.if-n-gt64.false; fits = c.below-low.type_inv; bits = c.below-low.ensures } in
     let same = fun_ext c.read-v1.ensures.digits in
     let next = next_is low v (omega (arith, c.if-v2-low-eq0.false)) in
     let d = next.0 in

@@ -7,7 +7,7 @@ pub returns-then-self-low-ne0 : goal.returns-then-self-low-ne0
 returns-then-self-low-ne0 c =
     let x = c.args.self in
     let low = c.below-low in
-    let below : Low 64 c.args.n low.result = record { most = c.if-n-gt64.false; fits = low.type-inv; bits = low.ensures } in (
+    let below : Low 64 c.args.n low.result = record { most = c.if-n-gt64.false; fits = low.type_inv; bits = low.ensures } in (
       record { some = omega arith; most = below.most },
       sym (product_has_zero 64 x.magnitude x.sign (search rules) (search rules) below (omega (arith, c.if-self-low-ne0.true))),
     )
@@ -16,7 +16,7 @@ pub returns : goal.returns
 returns c =
     let x = c.args.self in
     let low = c.below-low in
-    let below : Low 64 c.args.n low.result = record { most = c.if-n-gt64.false; fits = low.type-inv; bits = low.ensures } in (
+    let below : Low 64 c.args.n low.result = record { most = c.if-n-gt64.false; fits = low.type_inv; bits = low.ensures } in (
       record { some = omega arith; most = below.most },
       ap (λ x. 1 + x % 2) c.count-twos.ensures.value
           ∙ sym (product_no_zero 64 x.magnitude x.sign (search rules) (search rules) below c.if-self-low-ne0.false),

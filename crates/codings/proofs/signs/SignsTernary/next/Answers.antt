@@ -7,7 +7,7 @@ pub returns-then-self-low-ne0 : goal.returns-then-self-low-ne0
 returns-then-self-low-ne0 c =
     let x = c.args.self in
     let low = c.below-low in
-    let below : Low 64 c.args.n low.result = record { most = c.if-n-gt64.false; fits = low.type-inv; bits = low.ensures } in
+    let below : Low 64 c.args.n low.result = record { most = c.if-n-gt64.false; fits = low.type_inv; bits = low.ensures } in
     inr (
       refl,
       record { some = omega arith; most = below.most },
@@ -18,7 +18,7 @@ pub returns-then-twos-low-eq0 : goal.returns-then-twos-low-eq0
 returns-then-twos-low-eq0 c =
     let x = c.args.self in
     let low = c.below-low in
-    let below : Low 64 c.args.n low.result = record { most = c.if-n-gt64.false; fits = low.type-inv; bits = low.ensures } in (
+    let below : Low 64 c.args.n low.result = record { most = c.if-n-gt64.false; fits = low.type_inv; bits = low.ensures } in (
       record { some = omega arith; most = below.most },
       long_is 64 x.magnitude x.sign (search rules) (search rules) below c.if-self-low-ne0.false,
       last_is 64 x.magnitude x.sign (search rules) (search rules) below c.if-twos-low-eq0.true,
@@ -28,7 +28,7 @@ pub returns : goal.returns
 returns c =
     let x = c.args.self in
     let low = c.below-low in
-    let below : Low 64 c.args.n low.result = record { most = c.if-n-gt64.false; fits = low.type-inv; bits = low.ensures } in (
+    let below : Low 64 c.args.n low.result = record { most = c.if-n-gt64.false; fits = low.type_inv; bits = low.ensures } in (
       record { some = omega arith; most = below.most },
       long_is 64 x.magnitude x.sign (search rules) (search rules) below c.if-self-low-ne0.false,
       (

@@ -9,8 +9,8 @@ use Rattle.codings.proofs.singles.SingleCoding.change.Goals as goal
 
 pub returns : goal.returns
 returns c =
-    let changed = c.in-ok-changed.ensures in
-    let fits : Long f3 32 (meantByPlanes c.in-ok-changed.changed) = λ k h.
+    let changed = c.in_ok-changed.ensures in
+    let fits : Long f3 32 (meantByPlanes c.in_ok-changed.changed) = λ k h.
     changed.2 k
     ∙ cond-false _ _ _ (ne_eqb k c.args.place (λ e. omega arith))
     ∙ c.wide.ensures k

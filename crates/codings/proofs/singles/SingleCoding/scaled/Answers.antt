@@ -9,9 +9,9 @@ use Rattle.codings.proofs.singles.SingleCoding.scaled.Goals as goal
 
 pub returns : goal.returns
 returns c =
-    let scaled = c.in-ok-scaled.ensures in
+    let scaled = c.in_ok-scaled.ensures in
     let d : Digit 3 = of f3 c.args.digit in
-    let fits : Long f3 32 (meantByPlanes c.in-ok-scaled.scaled) = λ k h.
+    let fits : Long f3 32 (meantByPlanes c.in_ok-scaled.scaled) = λ k h.
     scaled.1 k ∙ ap (f3.mul d) (c.wide.ensures k ∙ digits_out 32 _ _ k h) ∙ mul_nil f3 d in (
       scaled.0,
       λ k. c.narrow.ensures.digits fits k ∙ scaled.1 k ∙ ap (f3.mul d) (c.wide.ensures k),

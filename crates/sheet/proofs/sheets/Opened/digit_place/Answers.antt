@@ -4,5 +4,5 @@ use Rattle.sheet.proofs.sheets.Opened.digit_place.Goals as goal
 
 pub returns : goal.returns
 returns c =
-    digit_read c.args.self.now c.args.number c.args.place c.saturating-mul.result c.saturating-add.result c.saturating-mul-2.result c.saturating-add-2.result
-    c.saturating-mul.ensures c.saturating-add.ensures c.saturating-mul-2.ensures c.saturating-add-2.ensures
+    digit_read c.args.self.now c.args.number c.args.place c.saturating_mul.result c.saturating_add.result c.saturating_mul-2.result c.saturating_add-2.result
+    c.saturating_mul.ensures c.saturating_add.ensures c.saturating_mul-2.ensures c.saturating_add-2.ensures

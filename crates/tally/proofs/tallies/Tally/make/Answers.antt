@@ -7,7 +7,7 @@ use Rattle.tally.proofs.tallies.Tally.make.Goals as goal
 
 pub returns : goal.returns
 returns g c =
-    let makes = c.in-default.ensures in
+    let makes = c.in_default.ensures in
     record {
       made = (
         record {

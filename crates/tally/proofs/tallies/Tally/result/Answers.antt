@@ -7,7 +7,7 @@ use Rattle.tally.proofs.tallies.Tally.result.Goals as goal
 
 pub returns : goal.returns
 returns g c = record {
-  answer = simp c.in-ok-made.ensures c.total.ensures;
+  answer = simp c.in_ok-made.ensures c.total.ensures;
   stands = λ b s.
       let A = matrix g.C.Coding.field g.C.Coding.meant c.args.self.now.rows.now in
       let few : 2 ^ c.args.self.now.sizes.splits ≤ 2 ^ 6 = pow_mono c.args.self.now.sizes.few in
