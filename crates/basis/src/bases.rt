@@ -28,7 +28,7 @@ pub struct Basis<'a, C: Coding> {
 // Sets the first rows to zero.
 fn zero_first<C: Coding>(rows: &mut [C], count: usize)
     requires { count ≤ length rows.old }
-    ensures zero { AllWithin (λ x. (meant x ≡ zeros field) × canonical x) rows.new 0 count }
+    ensures zero { AllWithin (λ x. (C.Coding.meant x ≡ zeros C.Coding.field) × C.Coding.canonical x) rows.new 0 count }
     ensures rest { drop count rows.new ≡ drop count rows.old }
 {
     for i in 0..count {
@@ -53,7 +53,7 @@ impl<'a, C: Coding> Basis<'a, C> {
     // A basis of no vectors yet, of length n, in the first n rows.
     pub fn make(rows: &'a mut [C], n: usize) -> Basis<'a, C>
         ensures made { MatchOption result.void
-            (Stands field C.Coding.width meant canonical result [] × (result.sizes.length ≡ n))
+            (Stands C.Coding.field C.Coding.width C.Coding.meant C.Coding.canonical result [] × (result.sizes.length ≡ n))
             (λ e. NotMade C.Coding.width n (length rows.old) e × (result.rows.now ≡ rows.old)) }
         ensures beyond { drop n result.rows.now ≡ drop n rows.old }
         ensures lent { result.rows.ghost_name ≡ rows.entry.ghost_name }
@@ -94,13 +94,13 @@ impl<'a, C: Coding> Basis<'a, C> {
     // Takes a vector of the basis's length in.
     pub fn take_in(&mut self, vector: C) -> Result<Taken, Refusal>
         ensures answer { Unless self.old.void result
-            (λ _. Long field self.old.sizes.length (meant vector))
-            (λ e. Beyond field self.old.sizes.length (meant vector) e
-            ⊎ ((number_of e ≡ 8) × Long field self.old.sizes.length (meant vector) × NoRoom self.old)) }
+            (λ _. Long C.Coding.field self.old.sizes.length (C.Coding.meant vector))
+            (λ e. Beyond C.Coding.field self.old.sizes.length (C.Coding.meant vector) e
+            ⊎ ((number_of e ≡ 8) × Long C.Coding.field self.old.sizes.length (C.Coding.meant vector) × NoRoom self.old)) }
         ensures refused { OnErr result (Same self.old self.new) }
         ensures known { IfOk result (λ t. word_of t ≡ codes "known" → Same self.old self.new) }
-        ensures stands { (vs : List (Vector field)) → Stands field C.Coding.width meant canonical self.old vs
-            → MatchResult result (λ t. Tells field vs (meant vector) t × Stands field C.Coding.width meant canonical self.new (meant vector ∷ vs)) (λ e. number_of e ≡ 11) }
+        ensures stands { (vs : List (Vector C.Coding.field)) → Stands C.Coding.field C.Coding.width C.Coding.meant C.Coding.canonical self.old vs
+            → MatchResult result (λ t. Tells C.Coding.field vs (C.Coding.meant vector) t × Stands C.Coding.field C.Coding.width C.Coding.meant C.Coding.canonical self.new (C.Coding.meant vector ∷ vs)) (λ e. number_of e ≡ 11) }
         ensures kept { Kept self.old self.new }
     {
         self.made()?;
@@ -129,8 +129,8 @@ impl<'a, C: Coding> Basis<'a, C> {
             (λ _. self.new.sizes.rank ≡ 0)
             (λ e. (number_of e ≡ 8) × (length self.old.rows.now < self.old.sizes.length)) }
         ensures refused { OnErr result (Same self.old self.new) }
-        ensures stands { (vs : List (Vector field)) → Stands field C.Coding.width meant canonical self.old vs
-            → MatchResult result (λ _. Stands field C.Coding.width meant canonical self.new []) (λ _. ⊥) }
+        ensures stands { (vs : List (Vector C.Coding.field)) → Stands C.Coding.field C.Coding.width C.Coding.meant C.Coding.canonical self.old vs
+            → MatchResult result (λ _. Stands C.Coding.field C.Coding.width C.Coding.meant C.Coding.canonical self.new []) (λ _. ⊥) }
         ensures kept { Kept self.old self.new }
     {
         self.made()?;
@@ -149,8 +149,8 @@ impl<'a, C: Coding> Basis<'a, C> {
         ensures answer { Unless self.now.void result
             (λ x. (number < self.now.sizes.length) × (number < length self.now.rows.now) × ((d : C) → x ≡ slice_index_or self.now.rows.now number d))
             (λ e. (number_of e ≡ 9) × ((self.now.sizes.length ≤ number) ⊎ (length self.now.rows.now ≤ number))) }
-        ensures stands { (vs : List (Vector field)) → Stands field C.Coding.width meant canonical self.now vs
-            → MatchResult result (λ x. canonical x) (λ _. self.now.sizes.length ≤ number) }
+        ensures stands { (vs : List (Vector C.Coding.field)) → Stands C.Coding.field C.Coding.width C.Coding.meant C.Coding.canonical self.now vs
+            → MatchResult result (λ x. C.Coding.canonical x) (λ _. self.now.sizes.length ≤ number) }
     {
         self.made()?;
         let rows = &*self.rows;
@@ -163,10 +163,10 @@ impl<'a, C: Coding> Basis<'a, C> {
     // What is left of a vector: it differs from the vector by a combination, and holds 0 at every lead.
     pub fn remainder(&self, vector: C) -> Result<C, Refusal>
         ensures answer { Unless self.now.void result
-            (λ x. Long field self.now.sizes.length (meant vector) × canonical x)
-            (Beyond field self.now.sizes.length (meant vector)) }
-        ensures stands { (vs : List (Vector field)) → Stands field C.Coding.width meant canonical self.now vs
-            → IfOk result (λ x. Remains field self.now.sizes.length (rows_in field C.Coding.width meant (take self.now.sizes.rank self.now.rows.now)) vs (meant vector) (meant x)) }
+            (λ x. Long C.Coding.field self.now.sizes.length (C.Coding.meant vector) × C.Coding.canonical x)
+            (Beyond C.Coding.field self.now.sizes.length (C.Coding.meant vector)) }
+        ensures stands { (vs : List (Vector C.Coding.field)) → Stands C.Coding.field C.Coding.width C.Coding.meant C.Coding.canonical self.now vs
+            → IfOk result (λ x. Remains C.Coding.field self.now.sizes.length (rows_in C.Coding.field C.Coding.width C.Coding.meant (take self.now.sizes.rank self.now.rows.now)) vs (C.Coding.meant vector) (C.Coding.meant x)) }
     {
         self.made()?;
         if !is_long(vector, self.sizes.length) {
@@ -179,10 +179,10 @@ impl<'a, C: Coding> Basis<'a, C> {
     // Whether a vector is a combination of what was taken in.
     pub fn contains(&self, vector: C) -> Result<bool, Refusal>
         ensures answer { Unless self.now.void result
-            (λ _. Long field self.now.sizes.length (meant vector))
-            (Beyond field self.now.sizes.length (meant vector)) }
-        ensures stands { (vs : List (Vector field)) → Stands field C.Coding.width meant canonical self.now vs
-            → IfOk result (λ b. Decides b (Comb field vs (meant vector))) }
+            (λ _. Long C.Coding.field self.now.sizes.length (C.Coding.meant vector))
+            (Beyond C.Coding.field self.now.sizes.length (C.Coding.meant vector)) }
+        ensures stands { (vs : List (Vector C.Coding.field)) → Stands C.Coding.field C.Coding.width C.Coding.meant C.Coding.canonical self.now vs
+            → IfOk result (λ b. Decides b (Comb C.Coding.field vs (C.Coding.meant vector))) }
     {
         Ok(is_zero(self.remainder(vector)?))
     }
@@ -193,8 +193,8 @@ impl<'a, C: Coding> Basis<'a, C> {
             (λ _. self.now.sizes.length ≤ length output.old + self.now.sizes.rank)
             (λ e. (number_of e ≡ 8) × (length output.old + self.now.sizes.rank < self.now.sizes.length)) }
         ensures refused { OnErr result (output.new ≡ output.old) }
-        ensures stands { (vs : List (Vector field)) → Stands field C.Coding.width meant canonical self.now vs
-            → IfOk result (WroteDual field C.Coding.width meant canonical self.now.sizes.length self.now.sizes.rank vs output.old output.new) }
+        ensures stands { (vs : List (Vector C.Coding.field)) → Stands C.Coding.field C.Coding.width C.Coding.meant C.Coding.canonical self.now vs
+            → IfOk result (WroteDual C.Coding.field C.Coding.width C.Coding.meant C.Coding.canonical self.now.sizes.length self.now.sizes.rank vs output.old output.new) }
     {
         self.made()?;
         let length = self.sizes.length;

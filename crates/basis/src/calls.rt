@@ -45,7 +45,7 @@ fn ask<C: Coding>(basis: &Basis<'_, C>, question: Question<C>) {
 
 // Writes the dual into the first rows of the scratch, if they are enough.
 fn dual_within<C: Coding>(basis: &Basis<'_, C>, scratch: &mut [C], room: usize)
-    ensures { (vs : List (Vector field)) → Stands field C.Coding.width meant canonical basis.now vs
+    ensures { (vs : List (Vector C.Coding.field)) → Stands C.Coding.field C.Coding.width C.Coding.meant C.Coding.canonical basis.now vs
         → drop basis.now.sizes.length scratch.new ≡ drop basis.now.sizes.length scratch.old }
 {
     if room < scratch.len() {
@@ -57,8 +57,8 @@ fn dual_within<C: Coding>(basis: &Basis<'_, C>, scratch: &mut [C], room: usize)
 
 // One call of a list. Its answer, or its refusal, is left.
 fn apply<C: Coding>(basis: &mut Basis<'_, C>, call: Call<C>, scratch: &mut [C])
-    ensures stands { (vs : List (Vector field)) → Stands field C.Coding.width meant canonical basis.old vs
-        → Stands field C.Coding.width meant canonical basis.new (after_call field C.Coding.width meant basis.old.sizes.length vs call)
+    ensures stands { (vs : List (Vector C.Coding.field)) → Stands C.Coding.field C.Coding.width C.Coding.meant C.Coding.canonical basis.old vs
+        → Stands C.Coding.field C.Coding.width C.Coding.meant C.Coding.canonical basis.new (after_call C.Coding.field C.Coding.width C.Coding.meant basis.old.sizes.length vs call)
         × (drop basis.old.sizes.length scratch.new ≡ drop basis.old.sizes.length scratch.old) }
     ensures kept { Kept basis.old basis.new }
 {
@@ -76,8 +76,8 @@ fn apply<C: Coding>(basis: &mut Basis<'_, C>, call: Call<C>, scratch: &mut [C])
 
 // All calls of a list, in their order; the run goes on past refused ones.
 pub(crate) fn apply_all<C: Coding>(basis: &mut Basis<'_, C>, calls: &[Call<C>], scratch: &mut [C])
-    ensures stands { (vs : List (Vector field)) → Stands field C.Coding.width meant canonical basis.old vs
-        → Stands field C.Coding.width meant canonical basis.new (fold (after_call field C.Coding.width meant basis.old.sizes.length) vs calls.now)
+    ensures stands { (vs : List (Vector C.Coding.field)) → Stands C.Coding.field C.Coding.width C.Coding.meant C.Coding.canonical basis.old vs
+        → Stands C.Coding.field C.Coding.width C.Coding.meant C.Coding.canonical basis.new (fold (after_call C.Coding.field C.Coding.width C.Coding.meant basis.old.sizes.length) vs calls.now)
         × (drop basis.old.sizes.length scratch.new ≡ drop basis.old.sizes.length scratch.old) }
     ensures kept { Kept basis.old basis.new }
 {

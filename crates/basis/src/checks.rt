@@ -8,7 +8,7 @@ use coding::{Coding, Refusal};
 // Writes one digit for each row, in their order. Later bytes stay.
 pub fn check_digits<C: Coding>(rows: &[C], vector: C, output: &mut [u8]) -> Result<(), Refusal>
     ensures { MatchResult result
-        (λ _. (take (length rows.now) output.new ≡ check_digits_of field C.Coding.width meant rows.now (meant vector))
+        (λ _. (take (length rows.now) output.new ≡ check_digits_of C.Coding.field C.Coding.width C.Coding.meant rows.now (C.Coding.meant vector))
         × (drop (length rows.now) output.new ≡ drop (length rows.now) output.old))
         (λ e. (number_of e ≡ 8) × (length output.old < length rows.now) × (output.new ≡ output.old)) }
 {

@@ -11,8 +11,8 @@ use coding::{Coding, digit_at};
 
 // The vector with 1 at a place and 0 at all others.
 fn unit<C: Coding>(place: usize) -> C
-    ensures digits { place < C.Coding.width → (k : ℕ) → meant result k ≡ unit field place k }
-    ensures stored { canonical result }
+    ensures digits { place < C.Coding.width → (k : ℕ) → C.Coding.meant result k ≡ unit C.Coding.field place k }
+    ensures stored { C.Coding.canonical result }
 {
     match C::zero().change(place, 1) {
         Ok(vector) => vector,
@@ -22,7 +22,7 @@ fn unit<C: Coding>(place: usize) -> C
 
 // Whether a place is no row's lead.
 fn is_free<C: Coding>(rows: &[C], place: usize) -> bool
-    ensures { Decides result (Free field (rows_in field C.Coding.width meant rows.now) place) }
+    ensures { Decides result (Free C.Coding.field (rows_in C.Coding.field C.Coding.width C.Coding.meant rows.now) place) }
 {
     for i in 0..rows.len() {
         if lead_place(rows[i]) == place {
@@ -34,9 +34,9 @@ fn is_free<C: Coding>(rows: &[C], place: usize) -> bool
 
 // The vector of the dual with 1 at a free place and 0 at the other free places.
 fn dual_vector<C: Coding>(rows: &[C], place: usize) -> C
-    ensures digits { place < C.Coding.width → Each (λ s. s.lead < C.Coding.width) (rows_in field C.Coding.width meant rows.now)
-        → meant result ≡ dual_at field (rows_in field C.Coding.width meant rows.now) place }
-    ensures stored { canonical result }
+    ensures digits { place < C.Coding.width → Each (λ s. s.lead < C.Coding.width) (rows_in C.Coding.field C.Coding.width C.Coding.meant rows.now)
+        → C.Coding.meant result ≡ dual_at C.Coding.field (rows_in C.Coding.field C.Coding.width C.Coding.meant rows.now) place }
+    ensures stored { C.Coding.canonical result }
 {
     let mut vector: C = unit(place);
     for i in 0..rows.len() {
@@ -49,9 +49,9 @@ fn dual_vector<C: Coding>(rows: &[C], place: usize) -> C
 
 // Writes the normal form of the dual of rows in normal form, and gives the number of its rows.
 pub(crate) fn write_dual<C: Coding>(rows: &[C], n: usize, output: &mut [C]) -> usize
-    ensures { (vs : List (Vector field)) → n ≤ C.Coding.width → NormalForm field n (rows_in field C.Coding.width meant rows.now) vs
+    ensures { (vs : List (Vector C.Coding.field)) → n ≤ C.Coding.width → NormalForm C.Coding.field n (rows_in C.Coding.field C.Coding.width C.Coding.meant rows.now) vs
         → n ≤ length output.old + length rows.now
-        → WroteDual field C.Coding.width meant canonical n (length rows.now) vs output.old output.new result }
+        → WroteDual C.Coding.field C.Coding.width C.Coding.meant C.Coding.canonical n (length rows.now) vs output.old output.new result }
 {
     let mut count = 0;
     for place in 0..n {

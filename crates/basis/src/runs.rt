@@ -25,7 +25,7 @@ pub struct Compared {
 // Makes a basis in the rows and runs the calls on it.
 fn run<C: Coding>(n: usize, rows: &mut [C], calls: &[Call<C>], scratch: &mut [C])
     requires { InRange C.Coding.width n × (n ≤ length rows.old) }
-    ensures { Ran field C.Coding.width meant canonical n calls.now rows.old rows.new scratch.old scratch.new }
+    ensures { Ran C.Coding.field C.Coding.width C.Coding.meant C.Coding.canonical n calls.now rows.old rows.new scratch.old scratch.new }
 {
     let mut basis = Basis::make(rows, n);
     apply_all(&mut basis, calls, scratch);
@@ -90,7 +90,7 @@ pub fn same_rows<C: Coding, D: Coding>(
 
 // Whether two vectors both have length n.
 fn both_long<C: Coding>(first: C, second: C, n: usize) -> bool
-    ensures { Decides result (Long field n (meant first) × Long field n (meant second)) }
+    ensures { Decides result (Long C.Coding.field n (C.Coding.meant first) × Long C.Coding.field n (C.Coding.meant second)) }
 {
     is_long(first, n) && is_long(second, n)
 }
@@ -121,10 +121,10 @@ fn compare<C: Coding>(
     second: C,
     second_digits: &mut [u8],
 ) -> Result<Compared, Refusal>
-    ensures { (vs : List (Vector field)) → Stands field C.Coding.width meant canonical basis.now vs → basis.now.sizes.length ≡ n
+    ensures { (vs : List (Vector C.Coding.field)) → Stands C.Coding.field C.Coding.width C.Coding.meant C.Coding.canonical basis.now vs → basis.now.sizes.length ≡ n
         → n ≤ length scratch.old → n ≤ length first_digits.old → n ≤ length second_digits.old
-        → Long field n (meant first) → Long field n (meant second)
-        → MatchResult result (Comparison field C.Coding.width meant canonical n basis.now.sizes.rank basis.now.rows.now vs (meant first) (meant second) scratch.old scratch.new first_digits.old first_digits.new second_digits.old second_digits.new) (λ _. ⊥) }
+        → Long C.Coding.field n (C.Coding.meant first) → Long C.Coding.field n (C.Coding.meant second)
+        → MatchResult result (Comparison C.Coding.field C.Coding.width C.Coding.meant C.Coding.canonical n basis.now.sizes.rank basis.now.rows.now vs (C.Coding.meant first) (C.Coding.meant second) scratch.old scratch.new first_digits.old first_digits.new second_digits.old second_digits.new) (λ _. ⊥) }
 {
     let count = basis.dual(scratch)?;
     let dual = first_of(scratch, count);
@@ -156,10 +156,10 @@ pub fn same_coset<C: Coding>(
     second_digits: &mut [u8],
 ) -> Result<Compared, Refusal>
     ensures answer { MatchResult result
-        (Cosets field C.Coding.width meant canonical n calls.now (meant first) (meant second) rows.old rows.new scratch.old scratch.new first_digits.old first_digits.new second_digits.old second_digits.new)
-        (CosetsRefused field C.Coding.width n (length rows.old) (length scratch.old) (length first_digits.old) (length second_digits.old) (meant first) (meant second)) }
+        (Cosets C.Coding.field C.Coding.width C.Coding.meant C.Coding.canonical n calls.now (C.Coding.meant first) (C.Coding.meant second) rows.old rows.new scratch.old scratch.new first_digits.old first_digits.new second_digits.old second_digits.new)
+        (CosetsRefused C.Coding.field C.Coding.width n (length rows.old) (length scratch.old) (length first_digits.old) (length second_digits.old) (C.Coding.meant first) (C.Coding.meant second)) }
     ensures room { MatchResult result
-        (λ _. (n ≤ length scratch.old) × (n ≤ length first_digits.old) × (n ≤ length second_digits.old) × Long field n (meant first) × Long field n (meant second))
+        (λ _. (n ≤ length scratch.old) × (n ≤ length first_digits.old) × (n ≤ length second_digits.old) × Long C.Coding.field n (C.Coding.meant first) × Long C.Coding.field n (C.Coding.meant second))
         (λ _. Unit {0}) }
     ensures refused { OnErr result ((rows.new ≡ rows.old) × (scratch.new ≡ scratch.old) × (first_digits.new ≡ first_digits.old) × (second_digits.new ≡ second_digits.old)) }
 {

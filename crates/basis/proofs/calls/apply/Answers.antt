@@ -29,7 +29,7 @@ pub returns-in-Dual : goal.returns-in-Dual
 returns-in-Dual g c = record {
   stands = λ vs s. (
     subst (λ call. Stands g.C.Coding.field g.C.Coding.width g.C.Coding.meant g.C.Coding.canonical c.args.basis.now (after_call g.C.Coding.field g.C.Coding.width g.C.Coding.meant c.args.basis.now.sizes.length vs call)) (sym c.in-Dual.is) s,
-    c.dual_within_lem.ensures vs s,
+    c.dual_within.ensures vs s,
   );
   kept = record { long = refl; void = refl; beyond = refl; lent = refl };
 }

@@ -10,8 +10,8 @@ returns-in_err-judge c =
     let p = err_from_is_err_and c.from_residual.result c.from_residual.ensures.1 in
     rw (p.1, p.2) (inl c.in_err-judge.ensures, text_fault c.args.text.now c.in_err-judge.field-0.0 c.in_err-judge.ensures)
 
-pub value-lines-requires : goal.value_lines-requires
-value-lines-requires c = headed_fits c.args.text.now c.in-Some.head c.in-Some.ensures
+pub value_lines-requires : goal.value_lines-requires
+value_lines-requires c = headed_fits c.args.text.now c.in-Some.head c.in-Some.ensures
 
 pub returns-in_err-lines : goal.returns-in_err-lines
 returns-in_err-lines c =

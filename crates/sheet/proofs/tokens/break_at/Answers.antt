@@ -20,8 +20,8 @@ returns-in-Word c =
 there : (c : goal.Joined-found) → get_or c.args.text.now c.args.start 0 ≡ ending c.match-found.last
 there c =
     elim c.match-found.branch [
-      | in-Blank w ↦ subst (IsToken c.args.text.now c.args.start) w.in-Blank.is c.in_ok-found.ensures.2 ∙ ap ending (sym w.last_is)
-      | in-LineEnd w ↦ subst (IsToken c.args.text.now c.args.start) w.in-LineEnd.is c.in_ok-found.ensures.2 ∙ ap ending (sym w.last_is)
+      | in-Blank w ↦ subst (IsToken c.args.text.now c.args.start) w.in-Blank.is c.in_ok-found.ensures.2 ∙ ap ending (sym w.last-is)
+      | in-LineEnd w ↦ subst (IsToken c.args.text.now c.args.start) w.in-LineEnd.is c.in_ok-found.ensures.2 ∙ ap ending (sym w.last-is)
     ]
 
 pub returns : goal.returns

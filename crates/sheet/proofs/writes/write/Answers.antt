@@ -44,8 +44,8 @@ loop-row-init g c = (
   omega (arith, zero-mul (2 * c.in-Some.names)),
 )
 
-pub write-row-requires : goal.write_row-requires
-write-row-requires g c =
+pub write_row-requires : goal.write_row-requires
+write_row-requires g c =
     let found = c.in-Some.ensures in
     let size = c.in-Some-sheet_size.ensures in
     let more = row_room c.loop-row.row-index (length c.args.rows.now) (2 * c.in-Some.names) c.loop-row-test.true in

@@ -19,8 +19,8 @@ overflow_add-start g c =
     let w = word_holds c.args.n (c.args.k * c.share_size-size.result + c.share_size-size.result) c.requires.0 t.1 in
     omega (arith, w)
 
-pub sum-of-terms-requires : goal.sum_of_terms-requires
-sum-of-terms-requires g c =
+pub sum_of_terms-requires : goal.sum_of_terms-requires
+sum_of_terms-requires g c =
     let t = share_ends c.args.n c.args.s c.args.k c.share_size-size.result c.requires.1 c.requires.2 c.share_size-size.ensures in
     record { size = (record { some = omega arith; most = omega arith }, c.requires.0, omega arith); inside = (omega (arith, t.0), t.1) }
 
