@@ -1,21 +1,21 @@
 -- The first n of w places in two planes: the digits from n on, the successor and the product of the digits below n.
-use Rattle.std.proofs.Common.{◌≡◌, ℕ, ◌+◌, ◌-◌, ◌*◌, ◌%◌, ◌^◌, ◌<◌, ◌≤◌, Bool, true, false, cond, not, ◌&&◌, ◌||◌, ltb, sym, refl, ap, ◌∙◌, subst, ap₂, inl, inr, arith}
-use lib.Bits.{bit_and, bit_or, bit_xor, and_lt, or_lt, xor_lt}
+use Rattle.std.proofs.Common.{◌≡◌, ℕ, ◌+◌, ◌-◌, ◌%◌, ◌^◌, ◌<◌, ◌≤◌, true, false, not, ◌&&◌, ◌||◌, ltb, sym, ap, ◌∙◌, inl, inr, arith}
+use lib.Bits.{bit_and, bit_or, bit_xor, and_lt, xor_lt}
 use lib.Count.{ones, count_trailing_zeros}
 use lib.Pow.{ones_sub-lt}
 use Rattle.std.proofs.lemmas.Bool.{cases_lt, lt-ltb, le-ltb}
-use Rattle.words.specs.Bit.{bit, one, differs}
-use Rattle.words.proofs.Operations.{bit_and_lem, bit_or_lem, bit_xor_lem, bit_not}
+use Rattle.words.specs.Bit.{bit, one}
+use Rattle.words.proofs.Operations.{bit_and_lem, bit_or_lem, bit_not}
 use Rattle.words.proofs.Masks.{bit_zero, below_by_bits}
-use Rattle.words.proofs.Lowest.{Lowest, trailing_bits, Less, less_bits}
-use Rattle.algebra.specs.Field.{value, of}
+use Rattle.words.proofs.Lowest.{trailing_bits, less_bits}
+use Rattle.algebra.specs.Field.{value}
 use Rattle.algebra.specs.Modulo.{f3}
-use Rattle.algebra.specs.Vector.{joined, total, product, Long}
+use Rattle.algebra.specs.Vector.{total, product, Long}
 use Rattle.algebra.specs.Successor.{Next, Last}
 use Rattle.algebra.proofs.Digits.{same_digit, neg_nil}
 use Rattle.algebra.proofs.Joined.{joined_same}
 use Rattle.algebra.proofs.Ternary.{product_nil, product_twos}
-use Rattle.codings.specs.TwoPlanes.{plane_value, digits, Full}
+use Rattle.codings.specs.TwoPlanes.{digits, Full}
 use Rattle.codings.specs.Places.{everywhere}
 use Rattle.codings.specs.Counts.{ones_bits}
 use Rattle.codings.specs.TwoPlanesLemmas.{FullWords, digits_out, value_in, some_bit}

@@ -1,11 +1,11 @@
 -- The word operations on two planes, over plain numbers: what each answer means, and that no place is left empty.
-use Rattle.std.specs.Prelude.{◌≡◌, ℕ, ◌+◌, ◌-◌, ◌*◌, ◌%◌, ◌^◌, ◌<◌, ◌≤◌, Bool, true, false, cond, not, ◌&&◌, ◌||◌, ◌==◌, count_ones, refl}
+use Rattle.std.specs.Prelude.{◌≡◌, ℕ, ◌+◌, ◌-◌, ◌*◌, ◌%◌, ◌^◌, ◌<◌, ◌≤◌, false, cond, not, ◌||◌, ◌==◌, count_ones, refl}
 use Rattle.std.proofs.Common.{sym, ap, ap₂, ◌∙◌, inl, inr, arith}
 use Rattle.std.specs.Int.Bits.{bit_and, bit_or, bit_xor}
 use Rattle.std.proofs.lemmas.Nat.{or_lt, xor_lt}
 use Rattle.std.proofs.Math.Pow.{ones_sub-lt}
 use Rattle.std.proofs.lemmas.Bool.{cases_eq, eq-eqb, ne_eqb, cond-true, cond-false}
-use Rattle.words.specs.Bit.{bit, one, differs}
+use Rattle.words.specs.Bit.{bit, one}
 use Rattle.words.proofs.Operations.{bit_and_lem, bit_or_lem, bit_xor_lem, bit_not}
 use Rattle.words.proofs.Masks.{bit_zero, bit_ones}
 use Rattle.words.proofs.Lowest.{Lowest}

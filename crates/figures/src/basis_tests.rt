@@ -93,9 +93,9 @@ fn leaves_and_checks<C: Coding>(
     stay(rt, dual, 1)?;
     let mut digits = [BYTE; 3];
     check_digits(dual, whole, &mut digits)?;
-    assert_eq!(rt; &digits[0..3], &[1, 2, BYTE]);
+    assert_eq!(rt; &digits[0..3], [1, 2, BYTE].as_slice());
     check_digits(dual, left, &mut digits)?;
-    assert_eq!(rt; &digits[0..3], &[1, 2, BYTE]);
+    assert_eq!(rt; &digits[0..3], [1, 2, BYTE].as_slice());
     Ok(())
 }
 

@@ -21,8 +21,8 @@ fn refuses_write<C: Ternary>(
     match write(head.as_bytes(), rows, &mut output) {
         Ok(_) => Err(Fail::new("written")),
         Err(refusal) => {
-            assert_eq!(rt; refusal.number(), number);
-            assert_eq!(rt; &output[0..7], b"???????");
+            assert_eq!(rt; refusal.number(), number, "{head}");
+            assert_eq!(rt; &output[0..7], b"???????".as_slice(), "{head}");
             Ok(())
         }
     }
@@ -55,7 +55,7 @@ fn refuses_writes(rt: HostRuntime) -> Result<(), Fail> {
         ("a\n", &[within, beyond], 11),
     ];
     for (head, rows, number) in cases {
-        refuses_write(&rt, head, rows, number).note(head)?;
+        refuses_write(&rt, head, rows, number)?;
     }
     Ok(())
 }

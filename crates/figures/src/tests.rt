@@ -313,7 +313,7 @@ fn reads_back<C: Ternary>(rt: &impl Abort, rows: &[C]) -> Result<(), Fail> {
     let mut output = [b'?'; 20];
     let length = write(b"a b c\n", rows, &mut output)?;
     assert!(rt; length == 18);
-    assert_eq!(rt; &output[0..20], b"a b c\n1 2 0\n0 1 2\n??");
+    assert_eq!(rt; &output[0..20], b"a b c\n1 2 0\n0 1 2\n??".as_slice());
     let sheet = open(&output[0..18])?;
     assert_eq!(rt; sheet.lines(), 2);
     shows::<C>(rt, sheet.line(0)?, &[1, 2, 0, 0])?;

@@ -1,5 +1,5 @@
 -- The lines of an opened sheet as the rows of a matrix, and the permanent of that matrix.
-use Rattle.std.proofs.Common.{◌≡◌, ℕ, zero, suc, ◌+◌, ◌%◌, ◌^◌, ◌<◌, ◌≤◌, Bool, true, false, cond, ltb, ◌≢◌, ◌⊎◌, List, [], ◌∷◌, map, length, get_or, set, Ok, Err, fold, Result, sym, refl, ap, ◌∙◌, subst, ap₂, inl, inr, true≢false, mod-eq_of_lt, arith, pow_mono, lt-ltb, eq-eqb, ne_eqb, MatchResult}
+use Rattle.std.proofs.Common.{◌≡◌, ℕ, zero, suc, ◌+◌, ◌%◌, ◌^◌, ◌<◌, ◌≤◌, Bool, true, false, cond, ltb, ◌⊎◌, List, [], map, length, get_or, set, Ok, Err, fold, Result, sym, ap, ◌∙◌, subst, ap₂, inl, inr, true≢false, mod-eq_of_lt, arith, pow_mono, lt-ltb, eq-eqb, ne_eqb, MatchResult}
 use native.Mathlib.Decide.{ℕ_discrete, dec_lt}
 use Rattle.std.specs.List.{range_with_len}
 use Rattle.std.proofs.ByRecursion.{All-get_or}

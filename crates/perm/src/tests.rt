@@ -24,7 +24,11 @@ fn check_fault(rt: &impl Abort, heap: Global, text: &[u8], values: &str) -> Resu
     match permanent(text) {
         Ok(_) => Err(Fail::new("accepted")),
         Err(fault) => {
-            assert_eq!(rt; fault_lines(heap, fault)?.as_str(), expected.as_str());
+            assert_eq!(rt;
+                fault_lines(heap, fault)?.as_str(),
+                expected.as_str(),
+                "{values}"
+            );
             Ok(())
         },
     }
@@ -64,7 +68,7 @@ fn refuses(rt: HostRuntime) -> Result<(), Fail> {
         (b"a a\n1 1\n1 1\n", "sheet 3 0"),
     ];
     for (text, values) in cases {
-        check_fault(&rt, rt.alloc(), text, values).note(values)?;
+        check_fault(&rt, rt.alloc(), text, values)?;
     }
     Ok(())
 }

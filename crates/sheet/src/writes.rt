@@ -8,7 +8,7 @@ ghost use Rattle.sheet.specs.Format.{values};
 ghost use Rattle.sheet.specs.Writes.{put, digits, Wrote, Refused};
 
 use crate::sheets::count_names;
-use coding::{Coding, Refusal, Ternary, digit_at, is_long};
+use coding::{Coding, Refusal, Ternary};
 
 // The most bytes that a sheet may have.
 const LONGEST: usize = 65_000;
@@ -23,7 +23,29 @@ fn sheet_size(head: usize, rows: usize, names: usize) -> Option<usize>
     if size > LONGEST { None } else { Some(size) }
 }
 
-// Whether every row has length n.
+// The digit at a place: 0 from the width on, as every vector has there.
+fn digit_at<C: Coding>(row: C, place: usize) -> u8
+    ensures { result ≡ value (C.Coding.meant row place) }
+{
+    match row.digit(place) {
+        Ok(digit) => digit,
+        Err(_) => 0,
+    }
+}
+
+// Whether every digit of a row from n on is 0.
+fn is_long<C: Coding>(row: C, n: usize) -> bool
+    ensures { Decides result (Long C.Coding.field n (C.Coding.meant row)) }
+{
+    for k in n..C::width() {
+        if digit_at(row, k) != 0 {
+            return false;
+        }
+    }
+    true
+}
+
+// Whether that holds of all rows.
 fn all_long<C: Coding>(rows: &[C], n: usize) -> bool
     ensures { MatchBool result
         (All (λ row. Long C.Coding.field n (C.Coding.meant row)) rows.now)

@@ -1,5 +1,5 @@
 -- A number is spelled by its bits.
-use Rattle.std.proofs.Common.{◌≡◌, ℕ, zero, suc, ◌+◌, ◌*◌, ◌/◌, ◌%◌, ◌^◌, ◌<◌, Bool, eqb, refl, ◌∙◌, ap₂, suc-le-suc, mod-lt, zero-lt-suc, pow-suc, arith}
+use Rattle.std.proofs.Common.{◌≡◌, ℕ, zero, suc, ◌+◌, ◌*◌, ◌/◌, ◌%◌, ◌^◌, ◌<◌, Bool, eqb, refl, ap₂, suc-le-suc, mod-lt, zero-lt-suc, pow-suc, arith}
 use lib.Arith.{lt-one}
 use Rattle.words.specs.Bit.{bit, one, word}
 use Rattle.words.proofs.Operations.{two_pos, no-bit}

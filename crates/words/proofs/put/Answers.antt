@@ -1,7 +1,6 @@
-use Rattle.std.proofs.Common.{◌≡◌, ◌-◌, ◌*◌, ◌%◌, ◌^◌, ◌<◌, sym, arith, lit<}
+use Rattle.std.proofs.Common.{◌-◌, ◌*◌, ◌%◌, ◌^◌, sym, arith, lit<}
 use Rattle.std.proofs.lemmas.Nat.{mod_below}
 use Rattle.std.proofs.lemmas.Bool.{ne_eqb, cond-false}
-use Rattle.words.specs.Bit.{bit}
 use Rattle.words.proofs.Operations.{bit_or_lem, bit_and_lem, bit_not}
 use Rattle.words.proofs.Masks.{bit_single}
 use Rattle.words.proofs.put.Goals as goal

@@ -1,4 +1,4 @@
-use Rattle.std.proofs.Common.{◌≡◌, ℕ, suc, ◌+◌, ◌<◌, ◌≤◌, eqb, ◌≢◌, length, get_or, take, drop, set, count_by, sym, refl, ap, ◌∙◌, subst, arith, length-take, take_all, rules, below_more}
+use Rattle.std.proofs.Common.{◌≡◌, ℕ, suc, ◌+◌, ◌≤◌, eqb, ◌≢◌, get_or, take, set, count_by, sym, refl, ap, ◌∙◌, subst, arith, length-take, take_all, rules, below_more}
 use Rattle.std.proofs.lemmas.List.{drop-set-lt, get_or-set_same, get_or-set_other}
 use Rattle.std.proofs.lemmas.List.Sums.{count_by-le-length}
 use Rattle.algebra.specs.Vector.{weight}

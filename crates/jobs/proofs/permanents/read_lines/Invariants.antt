@@ -1,5 +1,5 @@
 -- The lines so far are read, and the rows are as many as they were.
-use Rattle.std.proofs.Common.{◌≡◌, ℕ, ◌≤◌, List, length}
+use Rattle.std.proofs.Common.{ℕ, ◌≤◌, List, length}
 use Rattle.sheet.specs.Opened.{Describes}
 use Rattle.jobs.specs.Permanents.{LinesRead}
 use Rattle.jobs.proofs.permanents.read_lines.Given as goal

@@ -1,5 +1,5 @@
 -- A names line begins the text once at most, so the text is one exactly if it ends where that line does.
-use Rattle.std.proofs.Common.{◌≡◌, [], ◌++◌, length, drop, sym, ap, ◌∙◌, arith}
+use Rattle.std.proofs.Common.{[], ◌++◌, length, sym, ap, ◌∙◌, arith}
 use Rattle.std.proofs.lemmas.List.{append-nil, drop_all}
 use Rattle.sheet.specs.Format.{line}
 use Rattle.sheet.proofs.Splits.{names_once}

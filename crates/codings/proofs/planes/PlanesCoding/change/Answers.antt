@@ -1,4 +1,4 @@
-use Rattle.std.proofs.Common.{◌≡◌, ◌<◌, cond, eqb, ap, ◌∙◌, arith}
+use Rattle.std.proofs.Common.{◌<◌, cond, eqb, ap, ◌∙◌, arith}
 use Rattle.algebra.specs.Field.{of}
 use Rattle.algebra.specs.Modulo.{f3}
 use Rattle.codings.specs.TwoPlanesLemmas.{change_digits, change_full}

@@ -1,4 +1,4 @@
-use Rattle.std.proofs.Common.{◌≡◌, sym, refl, subst, inr, arith, rules}
+use Rattle.std.proofs.Common.{sym, refl, subst, inr, arith, rules}
 use mathlib.Core.Path.{fun_ext}
 use Rattle.algebra.specs.Modulo.{f3}
 use Rattle.algebra.specs.Vector.{Long}

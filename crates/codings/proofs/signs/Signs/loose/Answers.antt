@@ -1,4 +1,4 @@
-use Rattle.std.proofs.Common.{◌-◌, ◌&&◌, ap, ◌∙◌, rules}
+use Rattle.std.proofs.Common.{◌&&◌, ap, ◌∙◌, rules}
 use Rattle.words.specs.Bit.{bit}
 use Rattle.words.proofs.Operations.{bit_and_lem, bit_not}
 use Rattle.codings.specs.SignWords.{digits}

@@ -1,4 +1,4 @@
-use Rattle.std.proofs.Common.{◌+◌, ◌%◌, ◌≤◌, sym, ap, ◌∙◌, arith, rules}
+use Rattle.std.proofs.Common.{◌+◌, ◌%◌, sym, ap, ◌∙◌, arith, rules}
 use Rattle.codings.proofs.Within.{Low}
 use Rattle.codings.proofs.SignPlanes.{product_has_zero, product_no_zero}
 use Rattle.codings.proofs.signs.SignsTernary.full_product.Goals as goal

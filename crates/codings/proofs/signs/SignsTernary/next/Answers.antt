@@ -1,4 +1,4 @@
-use Rattle.std.proofs.Common.{◌≤◌, refl, inr, arith, rules}
+use Rattle.std.proofs.Common.{refl, inr, arith, rules}
 use Rattle.codings.proofs.Within.{Low}
 use Rattle.codings.proofs.SignPlanes.{long_is, not_long, last_is, next_is}
 use Rattle.codings.proofs.signs.SignsTernary.next.Goals as goal
