@@ -14,7 +14,7 @@ use Rattle.algebra.specs.Modulo.{f3}
 use Rattle.algebra.specs.Vector.{Vector, joined, weight, product, Long, Leads}
 use Rattle.algebra.specs.Successor.{Next, Last}
 use Rattle.algebra.proofs.Joined.{joined_same}
-use Rattle.codings.specs.TwoPlanes.{digits as planeDigits}
+use Rattle.codings.specs.TwoPlanes.{digits as plane_digits}
 use Rattle.codings.specs.SignWords.{digits}
 use Rattle.codings.specs.Places.{laid_same}
 use Rattle.codings.specs.TwoPlanesLemmas.{FullWords}
@@ -60,7 +60,7 @@ module _ (w m s : ℕ) (fits-m : m < 2 ^ w) (fits-s : s < 2 ^ w) where
   in_planes : FullWords w v1 v2
   in_planes = record { full = λ k h. let a = bit1 k h in let b = bit2 k h in grind arith; fits1 = fits1; fits2 = fits2 }
 
-  same_digits : (k : ℕ) → planeDigits w v1 v2 k ≡ digits w m s k
+  same_digits : (k : ℕ) → plane_digits w v1 v2 k ≡ digits w m s k
   same_digits = laid_same w _ _ (λ k h. let a = bit1 k h in let b = bit2 k h in grind arith)
 
   same_some : bit_xor v1 v2 ≡ m
@@ -74,11 +74,11 @@ module _ (w m s : ℕ) (fits-m : m < 2 ^ w) (fits-s : s < 2 ^ w) where
 
   -- what holds of the planes' non-zero places, twos and digits
   by_planes : (P : ℕ → ℕ → Vector f3 → Type 0)
-      → P (bit_xor v1 v2) ((2 ^ w - 1) - v2) (planeDigits w v1 v2) → P m (twos_of m s) (digits w m s)
+      → P (bit_xor v1 v2) ((2 ^ w - 1) - v2) (plane_digits w v1 v2) → P m (twos_of m s) (digits w m s)
   by_planes P p =
       subst (P m (twos_of m s)) (fun_ext same_digits)
-      (subst (λ twos. P m twos (planeDigits w v1 v2)) same_twos
-      (subst (λ some. P some ((2 ^ w - 1) - v2) (planeDigits w v1 v2)) same_some p))
+      (subst (λ twos. P m twos (plane_digits w v1 v2)) same_twos
+      (subst (λ some. P some ((2 ^ w - 1) - v2) (plane_digits w v1 v2)) same_some p))
 
   pub weight_ones : ones m ≡ weight f3 w (digits w m s)
   weight_ones = by_planes (λ some twos v. ones some ≡ weight f3 w v)
@@ -108,7 +108,7 @@ module _ (w m s : ℕ) (fits-m : m < 2 ^ w) (fits-s : s < 2 ^ w) where
   -- the successor: one more than the twos, with the ones; and the ones
   next_digits : 0 < v2 → (k : ℕ)
       → digits w (bit_or (ones_of w m s) (twos_of m s + 1)) (ones_of w m s) k
-      ≡ planeDigits w (bit_or (v2 - 1) ((2 ^ w - 1) - v1)) v1 k
+      ≡ plane_digits w (bit_or (v2 - 1) ((2 ^ w - 1) - v1)) v1 k
   next_digits e = laid_same w _ _ (λ k h.
       let a = bit_not w k (ones_of w m s) ones_fits h in
       let b = bit_not w k v1 fits1 h in
@@ -139,7 +139,7 @@ module _ (w m s : ℕ) (fits-m : m < 2 ^ w) (fits-s : s < 2 ^ w) where
     next_is e =
         let some : 0 < v2 = omega (arith, and_le_l v2 low) in
         by_planes (λ _ _ v. (d : ℕ) × Next f3 n v d (digits w (bit_or (ones_of w m s) (twos_of m s + 1)) (ones_of w m s)))
-        (subst (λ u. (d : ℕ) × Next f3 n (planeDigits w v1 v2) d u) (sym (fun_ext (next_digits some)))
+        (subst (λ u. (d : ℕ) × Next f3 n (plane_digits w v1 v2) d u) (sym (fun_ext (next_digits some)))
         (within.next_is below in_planes e))
 
     pub product_has_zero : 0 < bit_and ((2 ^ w - 1) - m) low → value (product f3 n (digits w m s)) ≡ 0

@@ -3,7 +3,7 @@ ghost use Rattle.std.specs.Prelude.{◌≡◌, ℕ};
 ghost use Rattle.algebra.specs.Modulo.{f3};
 ghost use Rattle.algebra.specs.Vector.{Long};
 ghost use Rattle.codings.specs.Halves.{upper, lower, Halves};
-ghost use Rattle.codings.specs.Plane.{meant_by as meantByPlanes};
+ghost use Rattle.codings.specs.Plane.{meant_by as meant_by_planes};
 ghost use Rattle.codings.specs.Single.{in_halves, FullHalves, Means, spelled_word, meant_by, Canonical};
 ghost use Rattle.codings.specs.TwoPlanesLemmas.{digits_out};
 ghost use Rattle.std.proofs.Common.{rules};
@@ -34,7 +34,7 @@ impl Single {
 
     // The same digits in two planes. Both planes are set from place 32 on, so the digits there are 0.
     fn wide(self) -> Planes
-        ensures { (k : ℕ) → meantByPlanes result k ≡ meant_by self k }
+        ensures { (k : ℕ) → meant_by_planes result k ≡ meant_by self k }
     {
         Planes {
             first: (self.word >> 32) | !LOW,
@@ -67,8 +67,8 @@ fn stored(word: u64) -> Single
 
 // The answer with the digits of two planes, if they hold none from place 32 on.
 fn narrow(planes: Planes) -> Single
-    ensures digits { Long f3 32 (meantByPlanes planes) → (k : ℕ) → meant_by result k ≡ meantByPlanes planes k }
-    ensures stored { Long f3 32 (meantByPlanes planes) → Canonical result }
+    ensures digits { Long f3 32 (meant_by_planes planes) → (k : ℕ) → meant_by result k ≡ meant_by_planes planes k }
+    ensures stored { Long f3 32 (meant_by_planes planes) → Canonical result }
 {
     let (v1, v2) = planes.read();
     stored(paired(v1, v2))

@@ -5,7 +5,7 @@ use Rattle.algebra.specs.Modulo.{f3}
 use Rattle.algebra.specs.Vector.{Vector, distance, dot}
 use Rattle.algebra.specs.Successor.{Walk}
 use Rattle.codings.specs.TwoPlanes.{spelled1, spelled2}
-use Rattle.codings.specs.SignWords.{magnitude_of, sign_of, digits as signDigits}
+use Rattle.codings.specs.SignWords.{magnitude_of, sign_of, digits as sign_digits}
 use Rattle.codings.specs.Single.{spelled_word}
 
 -- the vector with the listed digits, place 0 first, and 0 at the places after them
@@ -38,8 +38,8 @@ figures =
     ∷ record { given = spelled_word (vector (1 ∷ 2 ∷ 0 ∷ [])) ∷ []; stated = 0xfffffffefffffffd ∷ [] }
     -- the magnitude and sign of (1,1,0,2), and the digits of magnitude B with sign 8 and with sign C
     ∷ record { given = magnitude_of 64 (vector (1 ∷ 1 ∷ 0 ∷ 2 ∷ [])) ∷ sign_of 64 (vector (1 ∷ 1 ∷ 0 ∷ 2 ∷ [])) ∷ []; stated = 0xb ∷ 0x8 ∷ [] }
-    ∷ record { given = four (signDigits 64 0xb 0x8); stated = 1 ∷ 1 ∷ 0 ∷ 2 ∷ [] }
-    ∷ record { given = four (signDigits 64 0xb 0xc); stated = 1 ∷ 1 ∷ 0 ∷ 2 ∷ [] }
+    ∷ record { given = four (sign_digits 64 0xb 0x8); stated = 1 ∷ 1 ∷ 0 ∷ 2 ∷ [] }
+    ∷ record { given = four (sign_digits 64 0xb 0xc); stated = 1 ∷ 1 ∷ 0 ∷ 2 ∷ [] }
     -- sixty-four ones and sixty-four twos
     ∷ record { given = value (dot f3 64 (everywhere 1) (everywhere 2)) ∷ []; stated = 2 ∷ [] }
     ∷ []

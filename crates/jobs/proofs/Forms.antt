@@ -2,7 +2,7 @@
 use Rattle.std.proofs.Common.{◌≡◌, ℕ, ◌*◌, ◌<◌, ◌≤◌, ◌⊎◌, List, [], ◌∷◌, map, reverse, length, take, Ok, Err, Result, sym, refl, ap, ◌∙◌, subst, ap₂, inr, mul-le-mul, arith, MatchResult}
 use mathlib.Core.Path.{fun_ext}
 use native.Mathlib.Decide.{dec_lt}
-use Rattle.std.specs.List.{HoldsAt, AllByRecursion as All}
+use Rattle.std.specs.List.{HoldsAt, AllByRecursion}
 use Rattle.std.proofs.lemmas.List.FromFn.{get_or-map-range_with_len, length-map-range_with_len}
 use Rattle.std.proofs.ByRecursion.{All-get_or}
 use Rattle.std.proofs.lemmas.List.{append-nil, get_or_past, length-append, length-take-le}
@@ -35,7 +35,7 @@ any_order F n rs vs h = record {
 }
 
 -- a names line is short
-short_line : (names : List (List ℕ)) → 0 < length names → All Name names → length (line names) ≤ 9 * length names
+short_line : (names : List (List ℕ)) → 0 < length names → AllByRecursion Name names → length (line names) ≤ 9 * length names
 short_line [] some h = absurd (omega arith)
 short_line (w ∷ []) some h = omega (arith, length-append w (10 ∷ []), h.0.short)
 short_line (w ∷ (v ∷ names)) some h = omega (arith, length-append w (32 ∷ line (v ∷ names)), h.0.short, short_line (v ∷ names) (omega arith) h.1)
@@ -66,12 +66,12 @@ module _ (F : Field) {X : Type 0} (meant : X → Vector F) (n : ℕ) where
       subst (λ rs. NormalForm F n rs vs)
       (sym (rows_read w xs h.within ∙ rows_back F n n (omega arith) (rows_in F w meant xs) h.normal h.within)) h
 
-  all_long_lem : (w : ℕ) (xs : List X) → Within F n (rows_in F w meant xs) → All (λ x. Long F n (meant x)) xs
+  all_long_lem : (w : ℕ) (xs : List X) → Within F n (rows_in F w meant xs) → AllByRecursion (λ x. Long F n (meant x)) xs
   all_long_lem w [] h = tt
   all_long_lem w (x ∷ xs) (h, hs) = (h.1, all_long_lem w xs hs)
 
 -- what holds of every element fails at none
-at_none : {X : Type 0} (P : X → Type 0) (xs : List X) (i : ℕ) → i < length xs → All P xs → HoldsAt (λ x. P x → ⊥) xs i → ⊥
+at_none : {X : Type 0} (P : X → Type 0) (xs : List X) (i : ℕ) → i < length xs → AllByRecursion P xs → HoldsAt (λ x. P x → ⊥) xs i → ⊥
 at_none P [] i within all fails = omega arith
 at_none P (x ∷ xs) i within all fails = fails x (All-get_or P (x ∷ xs) i x within all)
 

@@ -1,6 +1,6 @@
 -- The normal form of a sheet's rows, and what the job that writes it leaves in the output.
 use Rattle.std.specs.Prelude.{◌≡◌, ℕ, ◌<◌, ◌≤◌, List, map, length, take, drop, slice_index}
-use Rattle.std.specs.List.{AllByRecursion as All}
+use Rattle.std.specs.List.{AllByRecursion}
 use Rattle.algebra.specs.Field.{Field, of}
 use Rattle.algebra.specs.Modulo.{f3}
 use Rattle.algebra.specs.Vector.{Vector}
@@ -16,7 +16,7 @@ digits_of F row k = of F (slice_index row k)
 
 -- the forms are the rows in normal form with the combinations of these rows, all of n digits
 pub record NormalOf (n : ℕ) (rows forms : List (List ℕ)) : Type 0 where
-  pub each : All (Row n) forms
+  pub each : AllByRecursion (Row n) forms
   pub form : NormalForm f3 n (rows_in f3 n (digits_of f3) forms) (map (digits_of f3) rows)
 
 -- the text is a sheet; the first `size` bytes of the output are the sheet of its names and the normal form of its rows, and later bytes are as they were

@@ -1,6 +1,6 @@
 -- The sheet of a head and rows, line by line, and its length.
 use Rattle.std.proofs.Common.{◌≡◌, ℕ, ◌+◌, ◌*◌, ◌<◌, ◌≤◌, List, [], ◌∷◌, ◌++◌, map, length, get_or, take, drop, sym, refl, ap, ◌∙◌, subst, append_assoc, mul-le-mul_right, suc-mul, zero-add, zero-mul, arith, length-append}
-use Rattle.std.specs.List.{range_with_len, HoldsAt, AllByRecursion as All}
+use Rattle.std.specs.List.{range_with_len, HoldsAt, AllByRecursion}
 use Rattle.std.proofs.lemmas.List.FromFn.{length-map-range_with_len}
 use Rattle.std.proofs.lemmas.List.{append-nil, drop_at, length-take-le, map_more, map_push, take_all, take_at}
 use Rattle.algebra.specs.Field.{Field, value}
@@ -53,11 +53,11 @@ module _ (F : Field) {X : Type 0} (meant : X → Vector F) where
       ∙ ap (λ (t : List ℕ). put start t bytes) (sym (body_more n rows i x within is))
 
   module _ (three : F ≡ f3) where
-    small : (ks : List ℕ) (x : X) → All (λ d. d < 3) (map (λ k. value (meant x k)) ks)
+    small : (ks : List ℕ) (x : X) → AllByRecursion (λ d. d < 3) (map (λ k. value (meant x k)) ks)
     small [] x = tt
     small (k ∷ ks) x = (omega (arith, (meant x k).1, ap (λ (G : Field). G.size) three), small ks x)
 
-    pub whole_rows : (n : ℕ) (rows : List X) → All (Row n) (map (digits F meant n) rows)
+    pub whole_rows : (n : ℕ) (rows : List X) → AllByRecursion (Row n) (map (digits F meant n) rows)
     whole_rows n [] = tt
     whole_rows n (x ∷ rows) =
         (record { whole = length-map-range_with_len (λ k. value (meant x k)) 0 n; small = small (range_with_len 0 n) x }, whole_rows n rows)
@@ -90,7 +90,7 @@ module _ (F : Field) {X : Type 0} (meant : X → Vector F) where
     -- the head, copied to the start, and then all rows, are the sheet
     pub wrote : F ≡ f3 → (width : ℕ) (old new copied : List ℕ) (size i : ℕ)
         → n ≤ width
-        → All (λ row. Long F n (meant row)) rows
+        → AllByRecursion (λ row. Long F n (meant row)) rows
         → size ≡ length head + length rows * (2 * n)
         → size ≤ 65000
         → copied ≡ head
@@ -119,7 +119,7 @@ module _ (F : Field) {X : Type 0} (meant : X → Vector F) where
           names = names;
           head_is = h;
           fit = omega arith;
-          long = subst (λ (k : ℕ). All (λ row. Long F k (meant row)) rows) (sym number) long;
+          long = subst (λ (k : ℕ). AllByRecursion (λ row. Long F k (meant row)) rows) (sym number) long;
           whole = whole;
           sheet = sheet;
           back = reads_back names _ (take size new) sheet;

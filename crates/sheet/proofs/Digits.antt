@@ -1,6 +1,6 @@
 -- Value lines: their digits, and in how many ways they can be cut out of a text.
 use Rattle.std.proofs.Common.{◌≡◌, ℕ, ◌+◌, ◌-◌, ◌*◌, ◌<◌, ◌≤◌, List, [], ◌∷◌, ◌++◌, map, length, get_or, drop, sym, refl, ap, ◌∙◌, subst, append_assoc, arith, length-append}
-use Rattle.std.specs.List.{AllByRecursion as All}
+use Rattle.std.specs.List.{AllByRecursion}
 use Rattle.std.proofs.ByRecursion.{All-push, All-drop}
 use Rattle.std.proofs.lemmas.List.{append-nil, drop_at, map_push, length_push}
 use Rattle.sheet.specs.Format.{Row, line, lines, values}
@@ -15,7 +15,7 @@ spelling d = (48 + d) ∷ []
 pub record Spelt (text : List ℕ) (turn : ℕ) (rest : List ℕ) : Type 0 where
   pub digits : List ℕ
   pub many : length digits + 1 ≡ turn
-  pub small : All (λ d. d < 3) digits
+  pub small : AllByRecursion (λ d. d < 3) digits
   pub text_is : text ≡ spaced (map spelling digits) ++ rest
 
 -- a digit and a byte begin the rest
@@ -59,26 +59,26 @@ digits_left (d ∷ front) tail (x ∷ (y ∷ row)) rest l e =
     let p = q.1 in
     (q.0, cc, q.2, q.3)
 
-blank_due : (others rest tail : List ℕ) → 1 < length others → All (λ d. d < 3) others → rest ≡ values others ++ tail → Digit 32 rest
+blank_due : (others rest tail : List ℕ) → 1 < length others → AllByRecursion (λ d. d < 3) others → rest ≡ values others ++ tail → Digit 32 rest
 blank_due [] rest tail l h e = absurd (omega arith)
 blank_due (x ∷ []) rest tail l h e = absurd (omega arith)
 blank_due (x ∷ (y ∷ others)) rest tail l h e = (x, values (y ∷ others) ++ tail, h.0, e)
 
-end_due : (others rest tail : List ℕ) → length others ≡ 1 → All (λ d. d < 3) others → rest ≡ values others ++ tail → Digit 10 rest
+end_due : (others rest tail : List ℕ) → length others ≡ 1 → AllByRecursion (λ d. d < 3) others → rest ≡ values others ++ tail → Digit 10 rest
 end_due [] rest tail l h e = absurd (omega arith)
 end_due (x ∷ []) rest tail l h e = (x, tail, h.0, e)
 end_due (x ∷ (y ∷ others)) rest tail l h e = absurd (omega arith)
 
 -- what is left of the row after the digits read so far
 left_due : (text : List ℕ) (turn : ℕ) (rest : List ℕ) (n : ℕ) → Spelt text turn rest → turn ≤ n → Begins n text
-    → (others : List ℕ) × (tail : List ℕ) × (length others + turn ≡ n + 1) × All (λ d. d < 3) others × (rest ≡ values others ++ tail)
+    → (others : List ℕ) × (tail : List ℕ) × (length others + turn ≡ n + 1) × AllByRecursion (λ d. d < 3) others × (rest ≡ values others ++ tail)
 left_due text turn rest n s l (row, after, r, e) =
     let m = s.many in
     let w = r.whole in
     let q = digits_left s.digits rest row after (omega arith) (sym s.text_is ∙ e) in
     let k = ap length q.1 ∙ length-append s.digits q.0 in
-    let h : All (λ d. d < 3) (s.digits ++ q.0) = subst (All (λ d. d < 3)) q.1 r.small in
-    let a : All (λ d. d < 3) q.0 = subst (All (λ d. d < 3)) (drop_at s.digits q.0 (length s.digits) refl) (All-drop (λ d. d < 3) (length s.digits) (s.digits ++ q.0) h) in
+    let h : AllByRecursion (λ d. d < 3) (s.digits ++ q.0) = subst (AllByRecursion (λ d. d < 3)) q.1 r.small in
+    let a : AllByRecursion (λ d. d < 3) q.0 = subst (AllByRecursion (λ d. d < 3)) (drop_at s.digits q.0 (length s.digits) refl) (All-drop (λ d. d < 3) (length s.digits) (s.digits ++ q.0) h) in
     (q.0, after, omega arith, a, q.3)
 
 -- a value line has a digit and a blank at each turn before the last
@@ -165,9 +165,9 @@ values_some (d ∷ []) = omega arith
 values_some (d ∷ (e ∷ row)) = omega arith
 
 -- value lines that begin others are the first of them
-pub rows_begin : (n : ℕ) (rows others : List (List ℕ)) (rest : List ℕ) → All (Row n) rows → All (Row n) others
+pub rows_begin : (n : ℕ) (rows others : List (List ℕ)) (rest : List ℕ) → AllByRecursion (Row n) rows → AllByRecursion (Row n) others
     → lines (map values rows) ++ rest ≡ lines (map values others)
-    → (more : List (List ℕ)) × (others ≡ rows ++ more) × All (Row n) more × (rest ≡ lines (map values more))
+    → (more : List (List ℕ)) × (others ≡ rows ++ more) × AllByRecursion (Row n) more × (rest ≡ lines (map values more))
 rows_begin n [] others rest hr ho e = (others, refl, ho, e)
 rows_begin n (row ∷ rows) [] rest hr ho e =
     let k = values_some row in

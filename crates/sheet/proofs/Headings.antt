@@ -1,6 +1,6 @@
 -- The names of a names line under way.
 use Rattle.std.proofs.Common.{◌≡◌, ℕ, ◌+◌, ◌<◌, ◌≤◌, Bool, true, false, List, [], ◌∷◌, ◌++◌, length, get_or, drop, sym, refl, ap, ◌∙◌, subst, inl, inr, append_assoc, arith}
-use Rattle.std.specs.List.{AllByRecursion as All}
+use Rattle.std.specs.List.{AllByRecursion}
 use Rattle.std.proofs.ByRecursion.{All-push, All-drop, All-get_or}
 use Rattle.std.proofs.lemmas.List.{drop_at, drop_more, get_or_at, get_or_append_left, length-append, length_push}
 use Rattle.std.proofs.lemmas.Bool.{cases_lt}
@@ -17,7 +17,7 @@ Different names = (i j : ℕ) → i < length names → j < length names → get_
 pub record Walked (text : List ℕ) (count next : ℕ) : Type 0 where
   pub names : List (List ℕ)
   pub many : length names ≡ count
-  pub each : All Name names
+  pub each : AllByRecursion Name names
   pub different : Different names
   pub text_is : text ≡ spaced names ++ drop next text
   pub place : next ≡ length (spaced names)
@@ -31,14 +31,14 @@ walked_none text = record { names = []; many = refl; each = tt; different = λ i
 
 -- the names that any names line has after those walked
 walked_others : (text : List ℕ) (count next : ℕ) (s : Walked text count next) (names : List (List ℕ)) (rest : List ℕ) → Names names → text ≡ line names ++ rest
-    → (others : List (List ℕ)) × (names ≡ s.names ++ others) × (0 < length others) × (drop next text ≡ line others ++ rest) × All Name others
+    → (others : List (List ℕ)) × (names ≡ s.names ++ others) × (0 < length others) × (drop next text ≡ line others ++ rest) × AllByRecursion Name others
 walked_others text count next s names rest n e =
     let q = others_left s.names (drop next text) names rest s.each n.each n.some (sym s.text_is ∙ e) in
-    let h : All Name (s.names ++ q.0) = subst (All Name) q.1 n.each in
-    (q.0, q.1, q.2, q.3, subst (All Name) (drop_at s.names q.0 (length s.names) refl) (All-drop Name (length s.names) (s.names ++ q.0) h))
+    let h : AllByRecursion Name (s.names ++ q.0) = subst (AllByRecursion Name) q.1 n.each in
+    (q.0, q.1, q.2, q.3, subst (AllByRecursion Name) (drop_at s.names q.0 (length s.names) refl) (All-drop Name (length s.names) (s.names ++ q.0) h))
 
 -- a line of names begins with a name and its ending
-name_due : (names : List (List ℕ)) (rest tail : List ℕ) → All Name names → 0 < length names → tail ≡ line names ++ rest
+name_due : (names : List (List ℕ)) (rest tail : List ℕ) → AllByRecursion Name names → 0 < length names → tail ≡ line names ++ rest
     → (w : List ℕ) × (after : List ℕ) × (last : Bool) × Name w × (tail ≡ w ++ ending last ∷ after)
 name_due [] rest tail h l e = absurd (omega arith)
 name_due (w ∷ []) rest tail h l e = (w, rest, true, h.0, e ∙ append_assoc w (10 ∷ []) rest)
@@ -51,7 +51,7 @@ none_without_name text count next s never names rest n e =
     let d = name_due q.0 rest (drop next text) q.4 q.2 q.3 in
     never d.0 d.1 d.2 d.3 d.4
 
-first_is : (w after : List ℕ) (last : Bool) (names : List (List ℕ)) (rest : List ℕ) → Name w → All Name names → 0 < length names
+first_is : (w after : List ℕ) (last : Bool) (names : List (List ℕ)) (rest : List ℕ) → Name w → AllByRecursion Name names → 0 < length names
     → w ++ ending last ∷ after ≡ line names ++ rest → (others : List (List ℕ)) × (names ≡ w ∷ others)
 first_is w after true names rest n h l e = ([], (last_name w after names rest n.bytes h l e).0)
 first_is w after false names rest n h l e = let q = more_names w after names rest n.bytes h l e in (q.0, q.1)
@@ -157,7 +157,7 @@ module _ (names : List (List ℕ)) (i : ℕ) (rest tail : List ℕ) (l : i < len
       ∙ ap (λ t. spaced t ++ rest) (drop_more names i [] l)
       ∙ append_assoc (get_or names i []) (32 ∷ spaced (drop (i + 1) names)) rest
 
-  pub name_matches : (w after : List ℕ) (last : Bool) → All Name names → Name w → tail ≡ w ++ ending last ∷ after
+  pub name_matches : (w after : List ℕ) (last : Bool) → AllByRecursion Name names → Name w → tail ≡ w ++ ending last ∷ after
       → (w ≡ get_or names i []) × (after ≡ spaced (drop (i + 1) names) ++ rest)
   name_matches w after last h n f =
       let q = cut_once w (get_or names i []) (ending last ∷ after) (32 ∷ (spaced (drop (i + 1) names) ++ rest)) n.bytes (All-get_or Name names i [] l h).bytes (ending_stops last) (ending_stops false) (sym f ∙ name_again) in

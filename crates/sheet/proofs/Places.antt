@@ -1,6 +1,6 @@
 -- Where the digits of a sheet stand in its text.
 use Rattle.std.proofs.Common.{◌≡◌, ℕ, zero, suc, ◌+◌, ◌-◌, ◌*◌, ◌^◌, ◌<◌, min, List, [], ◌∷◌, ◌++◌, map, length, get_or, sym, refl, ap, ◌∙◌, inl, inr, suc-mul, arith}
-use Rattle.std.specs.List.{AllByRecursion as All}
+use Rattle.std.specs.List.{AllByRecursion}
 use Rattle.std.proofs.ByRecursion.{All-get_or}
 use Rattle.std.proofs.lemmas.List.{get_or-append-add, get_or_append_left, get_or_past}
 use Rattle.std.proofs.lemmas.Bool.{cases_lt}
@@ -19,7 +19,7 @@ values_at (d ∷ (e ∷ row)) (suc k) l =
     let i : suc k * 2 ≡ suc (suc (k * 2)) = omega arith in
     ap (λ n. get_or (values (d ∷ (e ∷ row))) n 0) i ∙ values_at (e ∷ row) k (omega arith)
 
-lines_at : (n : ℕ) (rows : List (List ℕ)) (number k : ℕ) → All (Row n) rows → number < length rows → k < n
+lines_at : (n : ℕ) (rows : List (List ℕ)) (number k : ℕ) → AllByRecursion (Row n) rows → number < length rows → k < n
     → get_or (lines (map values rows)) ((number * n + k) * 2) 0 ≡ 48 + get_or (get_or rows number []) k 0
 lines_at n [] number k h l m = absurd (omega arith)
 lines_at n (row ∷ rows) zero k h l m =

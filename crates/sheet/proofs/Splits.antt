@@ -1,6 +1,6 @@
 -- Words and lines can be cut out of a text in one way only.
 use Rattle.std.proofs.Common.{◌≡◌, ℕ, ◌+◌, ◌-◌, ◌<◌, ◌≤◌, Bool, true, false, List, [], ◌∷◌, ◌++◌, length, get_or, take, drop, sym, refl, ap, ◌∙◌, subst, inl, inr, append_assoc, arith}
-use Rattle.std.specs.List.{AllByRecursion as All}
+use Rattle.std.specs.List.{AllByRecursion}
 use Rattle.std.proofs.ByRecursion.{All-from_get_or}
 use Rattle.std.proofs.lemmas.List.{length-append, length-drop, length-take, get_or-drop, get_or-take, drop-drop, drop_at, drop_all, drop_more, take-append-drop}
 use Rattle.std.proofs.lemmas.Bool.{cases_lt}
@@ -16,7 +16,7 @@ ending_stops false (inl l) = omega arith
 ending_stops false (inr l) = omega arith
 
 -- a text is a longest word and a rest in one way
-pub cut_once : (v w r s : List ℕ) → All WordByte v → All WordByte w → Stops r → Stops s → v ++ r ≡ w ++ s → (v ≡ w) × (r ≡ s)
+pub cut_once : (v w r s : List ℕ) → AllByRecursion WordByte v → AllByRecursion WordByte w → Stops r → Stops s → v ++ r ≡ w ++ s → (v ≡ w) × (r ≡ s)
 cut_once [] [] r s _ _ _ _ e = (refl, e)
 cut_once [] (y ∷ w) r s _ hw hr _ e = absurd (subst Stops e hr hw.0)
 cut_once (x ∷ v) [] r s hv _ _ hs e = absurd (subst Stops (sym e) hs hv.0)
@@ -106,7 +106,7 @@ name_starts [] rest n = absurd (omega (arith, n.some))
 name_starts (b ∷ w) rest n = (b, w ++ rest, n.bytes.0, refl)
 
 -- the line of a first word that is the last
-pub last_name : (w after : List ℕ) (names : List (List ℕ)) (rest : List ℕ) → All WordByte w → All Name names → 0 < length names
+pub last_name : (w after : List ℕ) (names : List (List ℕ)) (rest : List ℕ) → AllByRecursion WordByte w → AllByRecursion Name names → 0 < length names
     → w ++ 10 ∷ after ≡ line names ++ rest → (names ≡ w ∷ []) × (after ≡ rest)
 last_name w after [] rest hw hn l e = absurd (omega arith)
 last_name w after (v ∷ []) rest hw hn l e =
@@ -121,7 +121,7 @@ last_name w after (v ∷ (u ∷ names)) rest hw hn l e =
     absurd (omega arith)
 
 -- the line of a first word with others after it
-pub more_names : (w after : List ℕ) (names : List (List ℕ)) (rest : List ℕ) → All WordByte w → All Name names → 0 < length names
+pub more_names : (w after : List ℕ) (names : List (List ℕ)) (rest : List ℕ) → AllByRecursion WordByte w → AllByRecursion Name names → 0 < length names
     → w ++ 32 ∷ after ≡ line names ++ rest
     → (others : List (List ℕ)) × (names ≡ w ∷ others) × (0 < length others) × (after ≡ line others ++ rest)
 more_names w after [] rest hw hn l e = absurd (omega arith)
@@ -137,18 +137,18 @@ more_names w after (v ∷ (u ∷ names)) rest hw hn l e =
     (u ∷ names, cc, omega arith, cc)
 
 -- the line of names that goes on after some of them
-pub others_left : (front : List (List ℕ)) (tail : List ℕ) (names : List (List ℕ)) (rest : List ℕ) → All Name front → All Name names → 0 < length names
+pub others_left : (front : List (List ℕ)) (tail : List ℕ) (names : List (List ℕ)) (rest : List ℕ) → AllByRecursion Name front → AllByRecursion Name names → 0 < length names
     → spaced front ++ tail ≡ line names ++ rest
     → (others : List (List ℕ)) × (names ≡ front ++ others) × (0 < length others) × (tail ≡ line others ++ rest)
 others_left [] tail names rest hf hn l e = (names, refl, l, e)
 others_left (w ∷ front) tail names rest hf hn l e =
     let q = more_names w (spaced front ++ tail) names rest hf.0.bytes hn l (sym (append_assoc w (32 ∷ spaced front) tail) ∙ e) in
-    let h : All Name (w ∷ q.0) = subst (All Name) q.1 hn in
+    let h : AllByRecursion Name (w ∷ q.0) = subst (AllByRecursion Name) q.1 hn in
     let s = others_left front tail q.0 rest hf.1 h.1 q.2 q.3 in
     (s.0, q.1 ∙ ap (λ t. w ∷ t) s.1, s.2, s.3)
 
 -- two names lines begin equal texts only if they are equal
-pub names_once : (names others : List (List ℕ)) (r s : List ℕ) → All Name names → All Name others → 0 < length names → 0 < length others
+pub names_once : (names others : List (List ℕ)) (r s : List ℕ) → AllByRecursion Name names → AllByRecursion Name others → 0 < length names → 0 < length others
     → line names ++ r ≡ line others ++ s → (names ≡ others) × (r ≡ s)
 names_once [] others r s hn ho l k e = absurd (omega arith)
 names_once (w ∷ []) others r s hn ho l k e =
@@ -156,7 +156,7 @@ names_once (w ∷ []) others r s hn ho l k e =
     (sym q.0, q.1)
 names_once (w ∷ (v ∷ names)) others r s hn ho l k e =
     let q = more_names w (line (v ∷ names) ++ r) others s hn.0.bytes ho k (sym (append_assoc w (32 ∷ line (v ∷ names)) r) ∙ e) in
-    let h : All Name (w ∷ q.0) = subst (All Name) q.1 ho in
+    let h : AllByRecursion Name (w ∷ q.0) = subst (AllByRecursion Name) q.1 ho in
     let t = names_once (v ∷ names) q.0 r s hn.1 h.1 (omega arith) q.2 q.3 in
     (ap (λ t. w ∷ t) t.0 ∙ sym q.1, t.1)
 

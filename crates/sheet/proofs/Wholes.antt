@@ -1,6 +1,6 @@
 -- Whole sheets: what a text that begins with names and value lines can be, and cannot be.
 use Rattle.std.proofs.Common.{◌≡◌, ℕ, ◌+◌, ◌<◌, ◌≤◌, List, [], ◌∷◌, ◌++◌, map, length, take, drop, sym, refl, ap, ◌∙◌, subst, inl, inr, append_assoc, arith}
-use Rattle.std.specs.List.{AllByRecursion as All}
+use Rattle.std.specs.List.{AllByRecursion}
 use Rattle.std.proofs.ByRecursion.{All-append, All-get_or, All-weaker}
 use Rattle.std.proofs.lemmas.List.Prefix.{front_fits}
 use Rattle.std.proofs.lemmas.List.{append-nil, length-append, take_at}
@@ -13,7 +13,7 @@ use Rattle.sheet.specs.Reading.{WordByte, Headed, Begins, Lined, LinesFault}
 use Rattle.sheet.proofs.Splits.{names_once}
 use Rattle.sheet.proofs.Digits.{rows_begin, values_some}
 
-known_line : (names : List (List ℕ)) → All Name names → All Known (line names)
+known_line : (names : List (List ℕ)) → AllByRecursion Name names → AllByRecursion Known (line names)
 known_line [] h = (inr (inr refl), tt)
 known_line (w ∷ []) h =
     All-append Known w (10 ∷ []) (All-weaker WordByte Known (λ b k. inl k) w h.0.bytes) (inr (inr refl), tt)
@@ -23,20 +23,20 @@ known_line (w ∷ (v ∷ names)) h =
 digit_known : (d : ℕ) → d < 3 → Known (48 + d)
 digit_known d l = inl (inr (omega arith, omega arith))
 
-known_values : (row : List ℕ) → All (λ d. d < 3) row → All Known (values row)
+known_values : (row : List ℕ) → AllByRecursion (λ d. d < 3) row → AllByRecursion Known (values row)
 known_values [] h = (inr (inr refl), tt)
 known_values (d ∷ []) h = (digit_known d h.0, (inr (inr refl), tt))
 known_values (d ∷ (e ∷ row)) h = (digit_known d h.0, (inr (inl refl), known_values (e ∷ row) h.1))
 
-known_lines : (n : ℕ) (rows : List (List ℕ)) → All (Row n) rows → All Known (lines (map values rows))
+known_lines : (n : ℕ) (rows : List (List ℕ)) → AllByRecursion (Row n) rows → AllByRecursion Known (lines (map values rows))
 known_lines n [] h = tt
 known_lines n (row ∷ rows) h =
     All-append Known (values row) (lines (map values rows)) (known_values row h.0.small) (known_lines n rows h.1)
 
 -- a sheet has no foreign byte
-sheet_known : (names rows : List (List ℕ)) (text : List ℕ) → Sheet names rows text → All Known text
+sheet_known : (names rows : List (List ℕ)) (text : List ℕ) → Sheet names rows text → AllByRecursion Known text
 sheet_known names rows text s =
-    subst (All Known) (sym s.text_is)
+    subst (AllByRecursion Known) (sym s.text_is)
     (All-append Known (line names) (lines (map values rows)) (known_line names s.names_rule.each) (known_lines (length names) rows s.rows_rule))
 
 -- a text with a fault of the text layer is no sheet
@@ -46,7 +46,7 @@ text_fault text f (inr t) names rows s =
     t.there (All-get_or Known text f.place 0 t.within (sheet_known names rows text s))
 
 -- value lines that are something begin with a value line
-line_due : (n : ℕ) (rows : List (List ℕ)) (rest : List ℕ) → 0 < length rest → All (Row n) rows → rest ≡ lines (map values rows) → Begins n rest
+line_due : (n : ℕ) (rows : List (List ℕ)) (rest : List ℕ) → 0 < length rest → AllByRecursion (Row n) rows → rest ≡ lines (map values rows) → Begins n rest
 line_due n [] rest l h e = let k = ap length e in absurd (omega arith)
 line_due n (row ∷ rows) rest l h e = (row, lines (map values rows), h.0, e)
 
@@ -70,17 +70,17 @@ module _ (text : List ℕ) (head : Head) (h : Headed text head) where
 
   -- the value lines of a sheet go on from those read so far
   rows_left : (count : ℕ) (rest : List ℕ) (l : Lined head.names (drop head.end text) count rest) (names rows : List (List ℕ)) → Sheet names rows text
-      → (more : List (List ℕ)) × (rows ≡ l.rows ++ more) × All (Row head.names) more × (rest ≡ lines (map values more))
+      → (more : List (List ℕ)) × (rows ≡ l.rows ++ more) × AllByRecursion (Row head.names) more × (rest ≡ lines (map values more))
   rows_left count rest l names rows s =
       let q = after_names names rows s in
       let e : length names ≡ head.names = ap length q.0 ∙ sym h.count in
-      rows_begin head.names l.rows rows rest l.rule (subst (λ n. All (Row n) rows) e s.rows_rule) (sym l.text_is ∙ sym q.1)
+      rows_begin head.names l.rows rows rest l.rule (subst (λ n. AllByRecursion (Row n) rows) e s.rows_rule) (sym l.text_is ∙ sym q.1)
 
   whole : (count : ℕ) (rest : List ℕ) (l : Lined head.names (drop head.end text) count rest) → text ≡ written h.names l.rows ++ rest
   whole count rest l =
       h.text_is ∙ ap (λ t. line h.names ++ t) l.text_is ∙ sym (append_assoc (line h.names) (lines (map values l.rows)) rest)
 
-  pub bad_values : (f : Fault) → length text ≤ 65000 → All Known text → LinesFault head.names text head.end f → FaultOf text f × NoSheet text
+  pub bad_values : (f : Fault) → length text ≤ 65000 → AllByRecursion Known text → LinesFault head.names text head.end f → FaultOf text f × NoSheet text
   bad_values f short known b =
       let l = b.before in
       let w = whole b.count b.rest l in
@@ -94,7 +94,7 @@ module _ (text : List ℕ) (head : Head) (h : Headed text head) where
           rows = l.rows;
           rest = b.rest;
           names_rule = h.rule;
-          rows_rule = subst (λ n. All (Row n) l.rows) h.count l.rule;
+          rows_rule = subst (λ n. AllByRecursion (Row n) l.rows) h.count l.rule;
           text_is = w;
           more = b.more;
           none = λ row after r e. b.none (row, after, subst (λ n. Row n row) (sym h.count) r, e);
@@ -109,7 +109,7 @@ module _ (text : List ℕ) (head : Head) (h : Headed text head) where
   pub sheet : (count : ℕ) → length text ≤ 65000 → (l : Lined head.names (drop head.end text) count []) → Sheet h.names l.rows text
   sheet count short l = record {
     names_rule = h.rule;
-    rows_rule = subst (λ n. All (Row n) l.rows) h.count l.rule;
+    rows_rule = subst (λ n. AllByRecursion (Row n) l.rows) h.count l.rule;
     text_is = whole count [] l ∙ append-nil (written h.names l.rows);
     short = short;
   }

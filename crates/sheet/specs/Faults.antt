@@ -1,6 +1,6 @@
 -- When a text is refused as a sheet, and with which fault.
 use Rattle.std.specs.Prelude.{◌≡◌, ℕ, ◌<◌, ◌≤◌, ◌⊎◌, List, ◌++◌, length, ◌≢◌, slice_index}
-use Rattle.std.specs.List.{AllByRecursion as All}
+use Rattle.std.specs.List.{AllByRecursion}
 use Rattle.coding.specs.Refusals.{number_of}
 use Rattle.sheet.specs.declared.faults.Fault.{Fault}
 use Rattle.sheet.specs.declared.faults.Layer.TheVariants.{Text, Sheet}
@@ -32,7 +32,7 @@ pub record BadNames (text : List ℕ) (f : Fault) : Type 0 where
   pub layer : f.layer ≡ Sheet
   pub place : f.place ≡ 0
   pub short : length text ≤ 65000
-  pub known : All Known text
+  pub known : AllByRecursion Known text
   pub none : (names : List (List ℕ)) (rest : List ℕ) → Names names → text ≢ line names ++ rest
 
 -- 4: after a names line and value lines stands something that no value line begins
@@ -40,12 +40,12 @@ pub record BadValues (text : List ℕ) (f : Fault) : Type 0 where
   pub number : number_of f.refusal ≡ 4
   pub layer : f.layer ≡ Sheet
   pub short : length text ≤ 65000
-  pub known : All Known text
+  pub known : AllByRecursion Known text
   pub names : List (List ℕ)
   pub rows : List (List ℕ)
   pub rest : List ℕ
   pub names_rule : Names names
-  pub rows_rule : All (Row (length names)) rows
+  pub rows_rule : AllByRecursion (Row (length names)) rows
   pub text_is : text ≡ written names rows ++ rest
   pub more : 0 < length rest
   pub none : (row after : List ℕ) → Row (length names) row → rest ≢ values row ++ after

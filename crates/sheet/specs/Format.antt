@@ -1,6 +1,6 @@
 -- The text format of sheets, as a relation between names, rows and text: each byte is accounted for.
 use Rattle.std.specs.Prelude.{◌≡◌, ℕ, ◌+◌, ◌<◌, ◌≤◌, ◌⊎◌, List, [], ◌∷◌, ◌++◌, map, length, slice_index, slice_index_or}
-use Rattle.std.specs.List.{AllByRecursion as All}
+use Rattle.std.specs.List.{AllByRecursion}
 
 abbrev pub Letter : ℕ → Type 0
 Letter b = (97 ≤ b) × (b ≤ 122)
@@ -13,7 +13,7 @@ pub record Name (w : List ℕ) : Type 0 where
   pub some : 0 < length w
   pub short : length w ≤ 8
   pub first : Letter (slice_index w 0)
-  pub bytes : All (λ b. Letter b ⊎ Decimal b) w
+  pub bytes : AllByRecursion (λ b. Letter b ⊎ Decimal b) w
 
 -- words with single blanks between them, and a line feed at the end
 abbrev pub line : List (List ℕ) → List ℕ
@@ -30,13 +30,13 @@ lines (l ∷ ls) = l ++ lines ls
 pub record Names (names : List (List ℕ)) : Type 0 where
   pub some : 0 < length names
   pub most : length names ≤ 64
-  pub each : All Name names
+  pub each : AllByRecursion Name names
   pub different : (i j : ℕ) → i < length names → j < length names → slice_index_or names i [] ≡ slice_index_or names j [] → i ≡ j
 
 -- one digit 0, 1 or 2 for each of n names
 pub record Row (n : ℕ) (row : List ℕ) : Type 0 where
   pub whole : length row ≡ n
-  pub small : All (λ d. d < 3) row
+  pub small : AllByRecursion (λ d. d < 3) row
 
 -- a value line: the digits as words of one byte
 abbrev pub values : List ℕ → List ℕ
@@ -49,6 +49,6 @@ written names rows = line names ++ lines (map values rows)
 -- the text is the sheet of these names and rows
 pub record Sheet (names rows : List (List ℕ)) (text : List ℕ) : Type 0 where
   pub names_rule : Names names
-  pub rows_rule : All (Row (length names)) rows
+  pub rows_rule : AllByRecursion (Row (length names)) rows
   pub text_is : text ≡ written names rows
   pub short : length text ≤ 65000

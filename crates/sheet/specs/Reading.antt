@@ -1,6 +1,6 @@
 -- What the reader's parts find, each as a relation between a text and a place in it.
 use Rattle.std.specs.Prelude.{◌≡◌, ℕ, ◌+◌, ◌<◌, Bool, cond, ◌⊎◌, List, [], ◌∷◌, ◌++◌, map, length, drop, ◌≢◌, slice_index, slice_index_or}
-use Rattle.std.specs.List.{AllByRecursion as All}
+use Rattle.std.specs.List.{AllByRecursion}
 use Rattle.coding.specs.Refusals.{number_of}
 use Rattle.sheet.specs.declared.faults.Fault.{Fault}
 use Rattle.sheet.specs.declared.faults.Layer.TheVariants.{Sheet}
@@ -35,7 +35,7 @@ pub record WordAt (text : List ℕ) (place : ℕ) (word : List ℕ) : Type 0 whe
   pub rest : List ℕ
   pub there : drop place text ≡ word ++ rest
   pub some : 0 < length word
-  pub bytes : All WordByte word
+  pub bytes : AllByRecursion WordByte word
   pub stops : Stops rest
 
 abbrev pub IsToken : List ℕ → ℕ → Token → Type 0
@@ -89,7 +89,7 @@ Begins n rest = (row : List ℕ) × (after : List ℕ) × Row n row × (rest ≡
 -- value lines of n digits, and after them the rest
 pub record Lined (n : ℕ) (text : List ℕ) (count : ℕ) (rest : List ℕ) : Type 0 where
   pub rows : List (List ℕ)
-  pub rule : All (Row n) rows
+  pub rule : AllByRecursion (Row n) rows
   pub many : length rows ≡ count
   pub text_is : text ≡ lines (map values rows) ++ rest
 

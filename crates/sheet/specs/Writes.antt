@@ -1,6 +1,6 @@
 -- What the writer leaves in the caller's bytes, and why it refuses.
 use Rattle.std.specs.Prelude.{◌≡◌, ℕ, ◌+◌, ◌<◌, ◌≤◌, List, ◌++◌, map, length, take, drop}
-use Rattle.std.specs.List.{range_with_len, HoldsAt, AllByRecursion as All}
+use Rattle.std.specs.List.{range_with_len, HoldsAt, AllByRecursion}
 use Rattle.algebra.specs.Field.{Field, value}
 use Rattle.algebra.specs.Vector.{Vector, Long}
 use Rattle.sheet.specs.Format.{Names, Sheet, line, written}
@@ -29,7 +29,7 @@ module _ (F : Field) {X : Type 0} (meant : X → Vector F) where
     pub names : List (List ℕ)
     pub head_is : Heads names head
     pub fit : length names ≤ width
-    pub long : All (λ row. Long F (length names) (meant row)) rows
+    pub long : AllByRecursion (λ row. Long F (length names) (meant row)) rows
     pub whole : size ≡ length (text names rows)
     pub sheet : Sheet names (map (digits (length names)) rows) (take size new)
     pub back : ReadsBack names (map (digits (length names)) rows) (take size new)

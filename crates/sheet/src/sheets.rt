@@ -1,6 +1,6 @@
 // The sheet layer: a line of names, then value lines, one digit for each name.
 ghost use Rattle.std.specs.Prelude.{◌≡◌, ℕ, ◌+◌, ◌<◌, ◌≤◌, List, [], ◌∷◌, ◌++◌, length, drop, Decides, MatchOption, MatchResult, ◌≢◌, slice_index, slice_index_or};
-ghost use Rattle.std.specs.List.{AllByRecursion as All};
+ghost use Rattle.std.specs.List.{AllByRecursion};
 ghost use Rattle.sheet.specs.Format.{Name, Names, line};
 ghost use Rattle.sheet.specs.Opened.{Describes, Opens, Readable, VectorOf, LineFault};
 ghost use Rattle.sheet.specs.Writes.{Heads};
@@ -193,7 +193,7 @@ fn name_at<'a>(text: &'a [u8], start: usize) -> Option<Named<'a>>
 
 // A name has 1 to 8 letters and digits, a letter first; a word has no other bytes.
 fn is_name(word: &[u8]) -> bool
-    requires { All WordByte word.now }
+    requires { AllByRecursion WordByte word.now }
     ensures { Decides result (Name word.now) }
 {
     match word {
@@ -204,7 +204,7 @@ fn is_name(word: &[u8]) -> bool
 
 // Whether a word is among the first names of a text; they are walked again, so that nothing has to store them.
 fn is_among(text: &[u8], count: usize, word: &[u8]) -> bool
-    ensures { (names : List (List ℕ)) (rest : List ℕ) → All Name names → length names ≡ count
+    ensures { (names : List (List ℕ)) (rest : List ℕ) → AllByRecursion Name names → length names ≡ count
         → text.now ≡ spaced names ++ rest
         → Decides result ((k : ℕ) × (k < count) × (slice_index_or names k [] ≡ word.now)) }
 {

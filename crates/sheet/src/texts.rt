@@ -1,6 +1,6 @@
 // The text layer: how long a text may be, and which bytes it may hold.
 ghost use Rattle.std.specs.Prelude.{◌≡◌, ◌≤◌, length, MatchResult};
-ghost use Rattle.std.specs.List.{AllByRecursion as All};
+ghost use Rattle.std.specs.List.{AllByRecursion};
 ghost use Rattle.sheet.specs.Faults.{Known, TextFault};
 ghost use Rattle.sheet.specs.Reading.{IsKind};
 
@@ -35,7 +35,7 @@ pub fn kind_of(byte: u8) -> Kind
 // Judges the length before any byte, so that a text that is too long is always refused as such.
 pub fn judge(text: &[u8]) -> Result<(), Fault>
     ensures { MatchResult result
-        (λ _. (length text.now ≤ 65000) × All Known text.now)
+        (λ _. (length text.now ≤ 65000) × AllByRecursion Known text.now)
         (λ f. TextFault text.now f) }
 {
     if text.len() > LONGEST {

@@ -1,6 +1,6 @@
 // The writer: a names line and rows, put into the caller's bytes as a sheet.
 ghost use Rattle.std.specs.Prelude.{◌≡◌, ℕ, ◌+◌, ◌*◌, ◌<◌, ◌≤◌, length, Decides, MatchBool, MatchOption, MatchResult};
-ghost use Rattle.std.specs.List.{HoldsAt, AllByRecursion as All};
+ghost use Rattle.std.specs.List.{HoldsAt, AllByRecursion};
 ghost use Rattle.algebra.specs.Field.{value};
 ghost use Rattle.algebra.specs.Vector.{Long};
 ghost use Rattle.coding.specs.Refusals.{number_of};
@@ -48,7 +48,7 @@ fn is_long<C: Coding>(row: C, n: usize) -> bool
 // Whether that holds of all rows.
 fn all_long<C: Coding>(rows: &[C], n: usize) -> bool
     ensures { MatchBool result
-        (All (λ row. Long C.Coding.field n (C.Coding.meant row)) rows.now)
+        (AllByRecursion (λ row. Long C.Coding.field n (C.Coding.meant row)) rows.now)
         ((i : ℕ) × (i < length rows.now) × HoldsAt (λ row. Long C.Coding.field n (C.Coding.meant row) → ⊥) rows.now i) }
 {
     for row in rows {

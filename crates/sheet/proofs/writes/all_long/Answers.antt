@@ -1,6 +1,6 @@
 -- Each row adds itself to those that have the length, or is the one that has not.
 use Rattle.std.proofs.Common.{refl, subst}
-use Rattle.std.specs.List.{AllByRecursion as All}
+use Rattle.std.specs.List.{AllByRecursion}
 use Rattle.std.proofs.lemmas.List.Elements.{at_read}
 use Rattle.std.proofs.ByRecursion.{All-more}
 use Rattle.std.proofs.lemmas.List.{take_all}
@@ -24,4 +24,4 @@ loop-row-preserved g c =
 
 pub returns : goal.returns
 returns g c =
-    subst (All (λ row. Long g.C.Coding.field c.args.n (g.C.Coding.meant row))) (take_all c.loop-row.row-index c.args.rows.now c.loop-row-test.false) c.loop-row.invariant
+    subst (AllByRecursion (λ row. Long g.C.Coding.field c.args.n (g.C.Coding.meant row))) (take_all c.loop-row.row-index c.args.rows.now c.loop-row-test.false) c.loop-row.invariant

@@ -3,14 +3,14 @@ use Rattle.std.proofs.lemmas.Bool.{ne_eqb, cond-false}
 use Rattle.algebra.specs.Field.{of}
 use Rattle.algebra.specs.Modulo.{f3}
 use Rattle.algebra.specs.Vector.{Long}
-use Rattle.codings.specs.Plane.{meant_by as meantByPlanes}
+use Rattle.codings.specs.Plane.{meant_by as meant_by_planes}
 use Rattle.codings.specs.TwoPlanesLemmas.{digits_out}
 use Rattle.codings.proofs.singles.SingleCoding.change.Goals as goal
 
 pub returns : goal.returns
 returns c =
     let changed = c.in_ok-changed.ensures in
-    let fits : Long f3 32 (meantByPlanes c.in_ok-changed.changed) = λ k h.
+    let fits : Long f3 32 (meant_by_planes c.in_ok-changed.changed) = λ k h.
     changed.2 k
     ∙ cond-false _ _ _ (ne_eqb k c.args.place (λ e. omega arith))
     ∙ c.wide.ensures k
