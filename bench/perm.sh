@@ -1,18 +1,17 @@
 #!/bin/sh
 # Times the program `large` against the same sum in plain C, in one run, and prints the ratio.
-# Before it: rt check large
+# Before it, in crates/large: rt run
 set -eu
 cd "$(dirname "$0")/.."
 
 rounds=9
-proved=target/bin/large
-plain=target/bench/perm
+proved=crates/large/out/large
+plain=crates/large/out/plain
 
 if [ ! -x "$proved" ]; then
-    echo "no $proved: run 'rt check large' first" >&2
+    echo "no $proved: run 'rt run' in crates/large first" >&2
     exit 2
 fi
-mkdir -p target/bench
 "${CC:-clang}" -O3 -std=c11 -Wall -Wextra -o "$plain" bench/perm.c
 
 if [ "$("$proved")" != "$("$plain")" ]; then
