@@ -148,11 +148,11 @@ pub position_once : (F : Field) (n : ℕ) (u v : Vector F) → Long F n u → Lo
     → position F n u ≡ position F n v
     → (k : ℕ) → u k ≡ v k
 unfolding position
-position_once F zero u v long-u long-v e k = long-u k zero-le ∙ sym (long-v k zero-le)
-position_once F (suc n) u v long-u long-v e zero = same_digit _ _ (sym (same_lowest F n u v e))
-position_once F (suc n) u v long-u long-v e (suc k) =
+position_once F zero u v long_u long_v e k = long_u k zero-le ∙ sym (long_v k zero-le)
+position_once F (suc n) u v long_u long_v e zero = same_digit _ _ (sym (same_lowest F n u v e))
+position_once F (suc n) u v long_u long_v e (suc k) =
     let a : ℕ = value (u 0) in
-    let i = position_once F n (above F a u) (above F a v) (above_long F n a u long-u) (above_long F n a v long-v) (same_above F n u v e) in
+    let i = position_once F n (above F a u) (above F a v) (above_long F n a u long_u) (above_long F n a v long_v) (same_above F n u v e) in
     sym (turned_twice F a (u (suc k))) ∙ ap (turned F a) (i k) ∙ turned_twice F a (v (suc k))
 
 pub long_next : (F : Field) {n d : ℕ} {v w : Vector F} → Long F n v → Next F n v d w → Long F n w

@@ -1,4 +1,4 @@
--- Digits modulo 3 from plain numbers: each operation of F3 on numbers taken modulo 3, the multiples of a digit, and sums and products over places.
+-- Digits modulo 3 from plain numbers: each operation of f3 on numbers taken modulo 3, the multiples of a digit, and sums and products over places.
 use Rattle.std.proofs.Common.{◌≡◌, ℕ, zero, suc, ◌+◌, ◌-◌, ◌*◌, ◌%◌, ◌<◌, sym, refl, ap, ◌∙◌, inl, inr, not-suc-le-zero, mul-one, arith}
 use native.Mathlib.Nat.{add-mod, mod-mod}
 use Rattle.std.proofs.lemmas.Bool.{cases_eq}

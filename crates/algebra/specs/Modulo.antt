@@ -1,4 +1,4 @@
--- Arithmetic modulo q is a field wherever each digit but 0 has an inverse; F3 is the one in use.
+-- Arithmetic modulo q is a field wherever each digit but 0 has an inverse; f3 is the one in use.
 use Rattle.std.specs.Prelude.{◌≡◌, ℕ, zero, suc, ◌+◌, ◌-◌, ◌*◌, ◌/◌, ◌%◌, ◌<◌, ◌≢◌, refl}
 use Rattle.std.proofs.Common.{sym, ◌∙◌, ap, le_of_lt, zero-add, one-mul, add_assoc, add_comm, mul_assoc, mul_comm, mul-add, mod-lt, mod-eq_of_lt, add-mul, arith}
 use Rattle.std.proofs.Math.Nat.{mod_self, mod-add-mod, add-mod-mod, mod-add-div, add-mul-mod_self_left}

@@ -84,17 +84,17 @@ tests_agree a b P Q R p q pr qr = ((λ e. q.1 (qr.1 (pr.0 (p.0 e)))), (λ e. p.1
 
 -- all of it together, by what the calls answered
 module _ (F : Field) (w : ℕ) {X : Type 0} (meant : X → Vector F) (canonical : X → Type 0) (n rank : ℕ) (rows : List X) (vs : List (Vector F)) (given : Rows F w meant canonical n rank rows vs) (u v : Vector F) (lu : Long F n u) (lv : Long F n v)
-    (old-scratch scratch : List X) (count : ℕ) (dual : WroteDual F w meant canonical n rank vs old-scratch scratch count) (old-first first old-second second : List ℕ) where
+    (old_scratch scratch : List X) (count : ℕ) (dual : WroteDual F w meant canonical n rank vs old_scratch scratch count) (old_first first old_second second : List ℕ) where
   abbrev Digits : Vector F → List ℕ → List ℕ → Type 0
   Digits t old new = (take (length (take count scratch)) new ≡ check_digits_of F w meant (take count scratch) t) × (drop (length (take count scratch)) new ≡ drop (length (take count scratch)) old)
 
   size : length (take count scratch) ≡ count
   size = length-take-le count scratch dual.room
 
-  pub compared : Digits u old-first first → Digits v old-second second → (checks : Bool) → Decides checks (take count first ≡ take count second) →
+  pub compared : Digits u old_first first → Digits v old_second second → (checks : Bool) → Decides checks (take count first ≡ take count second) →
       (left right : Vector F) → Remains F n (rows_in F w meant (take rank rows)) vs u left → Remains F n (rows_in F w meant (take rank rows)) vs v right →
       (remainders : Bool) → Decides remainders ((k : ℕ) → k < n → value (left k) ≡ value (right k)) →
-      Comparison F w meant canonical n rank rows vs u v old-scratch scratch old-first first old-second second (record { check_digits = checks; remainders = remainders })
+      Comparison F w meant canonical n rank rows vs u v old_scratch scratch old_first first old_second second (record { check_digits = checks; remainders = remainders })
   compared a b checks c left right l r remainders d = record {
     count = count;
     dual = dual;
@@ -132,13 +132,13 @@ never_short F w meant canonical m n rank vs old new count dual bytes is h e room
 
 -- a run, and the comparison after it, which is not refused
 module _ (F : Field) (w : ℕ) {X : Type 0} (meant : X → Vector F) (canonical : X → Type 0) (n : ℕ) (rows : List X) (start : Basis X) (range : InRange w n) (room : n ≤ length rows) where
-  pub cosets : (end : Basis X) (calls : List (Call X)) (u v : Vector F) (old-scratch middle scratch : List X) (old-first first old-second second : List ℕ) (r : Result Compared Refusal) →
+  pub cosets : (end : Basis X) (calls : List (Call X)) (u v : Vector F) (old_scratch middle scratch : List X) (old_first first old_second second : List ℕ) (r : Result Compared Refusal) →
       Made F w meant canonical n rows start range room → drop n start.rows.now ≡ drop n rows →
-      ((vs : List (Vector F)) → Stands F w meant canonical start vs → Stands F w meant canonical end (fold (after_call F w meant start.sizes.length) vs calls) × (drop start.sizes.length middle ≡ drop start.sizes.length old-scratch)) →
+      ((vs : List (Vector F)) → Stands F w meant canonical start vs → Stands F w meant canonical end (fold (after_call F w meant start.sizes.length) vs calls) × (drop start.sizes.length middle ≡ drop start.sizes.length old_scratch)) →
       Kept start end →
-      ((vs : List (Vector F)) → Stands F w meant canonical end vs → end.sizes.length ≡ n → MatchResult r (Comparison F w meant canonical n end.sizes.rank end.rows.now vs u v middle scratch old-first first old-second second) (λ _. ⊥)) →
-      (answer : Compared) × (r ≡ Ok answer) × Cosets F w meant canonical n calls u v rows end.rows.now old-scratch scratch old-first first old-second second answer
-  cosets end calls u v old-scratch middle scratch old-first first old-second second r made beyond stands kept compare = which r refl (compare (accepted F w meant n calls) now_stands (kept.long ∙ m.1))
+      ((vs : List (Vector F)) → Stands F w meant canonical end vs → end.sizes.length ≡ n → MatchResult r (Comparison F w meant canonical n end.sizes.rank end.rows.now vs u v middle scratch old_first first old_second second) (λ _. ⊥)) →
+      (answer : Compared) × (r ≡ Ok answer) × Cosets F w meant canonical n calls u v rows end.rows.now old_scratch scratch old_first first old_second second answer
+  cosets end calls u v old_scratch middle scratch old_first first old_second second r made beyond stands kept compare = which r refl (compare (accepted F w meant n calls) now_stands (kept.long ∙ m.1))
     where
       m : Stands F w meant canonical start [] × (start.sizes.length ≡ n)
       m = is_made F w meant canonical n rows start range room made
@@ -146,7 +146,7 @@ module _ (F : Field) (w : ℕ) {X : Type 0} (meant : X → Vector F) (canonical 
       now_stands : Stands F w meant canonical end (accepted F w meant n calls)
       now_stands = subst (λ k. Stands F w meant canonical end (accepted F w meant k calls)) m.1 (stands [] m.0).0
 
-      which : (t : Result Compared Refusal) → r ≡ t → MatchResult t (Comparison F w meant canonical n end.sizes.rank end.rows.now (accepted F w meant n calls) u v middle scratch old-first first old-second second) (λ _. ⊥) →
-          (answer : Compared) × (r ≡ Ok answer) × Cosets F w meant canonical n calls u v rows end.rows.now old-scratch scratch old-first first old-second second answer
-      which (Ok answer) e c = (answer, e, record { middle = middle; run = ran F w meant canonical n rows start range room end calls old-scratch middle made beyond stands kept; compared = c })
+      which : (t : Result Compared Refusal) → r ≡ t → MatchResult t (Comparison F w meant canonical n end.sizes.rank end.rows.now (accepted F w meant n calls) u v middle scratch old_first first old_second second) (λ _. ⊥) →
+          (answer : Compared) × (r ≡ Ok answer) × Cosets F w meant canonical n calls u v rows end.rows.now old_scratch scratch old_first first old_second second answer
+      which (Ok answer) e c = (answer, e, record { middle = middle; run = ran F w meant canonical n rows start range room end calls old_scratch middle made beyond stands kept; compared = c })
       which (Err refusal) e c = absurd c

@@ -41,8 +41,8 @@ module _ (F : Field) where
     -- one row more taken off at its lead
     pub dual_more : (xs : List X) (i p d : ℕ) (x : X) (v u m t : Vector F) → i < length xs → x ≡ get_or xs i x → v ≡ dual_at F (rows_in F w meant (take i xs)) p → d ≡ value (meant x p) →
         ((k : ℕ) → u k ≡ unit F (lead_in F w (meant x)) k) → ((k : ℕ) → m k ≡ mul (of F d) (u k)) → ((k : ℕ) → t k ≡ add (v k) (neg (m k))) → t ≡ dual_at F (rows_in F w meant (take (i + 1) xs)) p
-    dual_more xs i p d x v u m t h e so_far digit at-lead multiple difference =
-        fun_ext (λ k. difference k ∙ ap₂ (λ a b. add a (neg b)) (ap (λ f. f k) so_far) (multiple k ∙ ap₂ mul (ap (of F) digit ∙ of_value F (meant x p)) (at-lead k)))
+    dual_more xs i p d x v u m t h e so_far digit at_lead multiple difference =
+        fun_ext (λ k. difference k ∙ ap₂ (λ a b. add a (neg b)) (ap (λ f. f k) so_far) (multiple k ∙ ap₂ mul (ap (of F) digit ∙ of_value F (meant x p)) (at_lead k)))
         ∙ sym (ap (λ rs. dual_at F rs p) (rows_more xs i x h e) ∙ dual_at_last F (rows_in F w meant (take i xs)) (row_in F w (meant x)) p)
 
     -- the vectors at the free places below a place are taken in

@@ -99,15 +99,15 @@ module _ (F : Field) (w : ℕ) {X : Type 0} (meant : X → Vector F) (canonical 
       which (Some e) h = absurd (refused e h.0)
 
   -- a whole run
-  abbrev pub ran : (end : Basis X) (calls : List (Call X)) (old-scratch scratch : List X) → Made → drop n start.rows.now ≡ drop n rows →
-      ((vs : List (Vector F)) → Stands F w meant canonical start vs → Stands F w meant canonical end (fold (after_call F w meant start.sizes.length) vs calls) × (drop start.sizes.length scratch ≡ drop start.sizes.length old-scratch)) →
-      Kept start end → Ran F w meant canonical n calls rows end.rows.now old-scratch scratch
-  ran end calls old-scratch scratch made beyond stands kept =
+  abbrev pub ran : (end : Basis X) (calls : List (Call X)) (old_scratch scratch : List X) → Made → drop n start.rows.now ≡ drop n rows →
+      ((vs : List (Vector F)) → Stands F w meant canonical start vs → Stands F w meant canonical end (fold (after_call F w meant start.sizes.length) vs calls) × (drop start.sizes.length scratch ≡ drop start.sizes.length old_scratch)) →
+      Kept start end → Ran F w meant canonical n calls rows end.rows.now old_scratch scratch
+  ran end calls old_scratch scratch made beyond stands kept =
       let m = is_made made in
       let t = stands [] m.0 in
       record {
         rank = end.sizes.rank;
         stands = subst₂ (λ k vs. Rows F w meant canonical k end.sizes.rank end.rows.now vs) (kept.long ∙ m.1) (ap (λ k. accepted F w meant k calls) m.1) t.0.rows;
         beyond = subst (λ k. drop k end.rows.now ≡ drop k start.rows.now) m.1 kept.beyond ∙ beyond;
-        scratch_beyond = subst (λ k. drop k scratch ≡ drop k old-scratch) m.1 t.1;
+        scratch_beyond = subst (λ k. drop k scratch ≡ drop k old_scratch) m.1 t.1;
       }

@@ -15,11 +15,11 @@ use Rattle.basis.specs.Form.{Rows}
 
 module _ (F : Field) (width : ℕ) {X : Type 0} (meant : X → Vector F) (canonical : X → Type 0) (n : ℕ) where
   -- the rows hold the normal form of the accepted vectors, and neither rows nor scratch beyond the first n have changed
-  pub record Ran (calls : List (Call X)) (old-rows rows old-scratch scratch : List X) : Type 0 where
+  pub record Ran (calls : List (Call X)) (old_rows rows old_scratch scratch : List X) : Type 0 where
     pub rank : ℕ
     pub stands : Rows F width meant canonical n rank rows (accepted F width meant n calls)
-    pub beyond : drop n rows ≡ drop n old-rows
-    pub scratch_beyond : drop n scratch ≡ drop n old-scratch
+    pub beyond : drop n rows ≡ drop n old_rows
+    pub scratch_beyond : drop n scratch ≡ drop n old_scratch
 
   -- the first bytes are the check digits of a vector, and later ones are as they were
   pub record Checked (rows : List X) (v : Vector F) (old new : List ℕ) : Type 0 where
@@ -27,11 +27,11 @@ module _ (F : Field) (width : ℕ) {X : Type 0} (meant : X → Vector F) (canoni
     pub rest : drop (length rows) new ≡ drop (length rows) old
 
   -- the dual in the scratch, the check digits of u and v against it, and what the rows leave of both
-  pub record Comparison (rank : ℕ) (rows : List X) (vs : List (Vector F)) (u v : Vector F) (old-scratch scratch : List X) (old-first first old-second second : List ℕ) (answer : Compared) : Type 0 where
+  pub record Comparison (rank : ℕ) (rows : List X) (vs : List (Vector F)) (u v : Vector F) (old_scratch scratch : List X) (old_first first old_second second : List ℕ) (answer : Compared) : Type 0 where
     pub count : ℕ
-    pub dual : WroteDual F width meant canonical n rank vs old-scratch scratch count
-    pub first_checked : Checked (take count scratch) u old-first first
-    pub second_checked : Checked (take count scratch) v old-second second
+    pub dual : WroteDual F width meant canonical n rank vs old_scratch scratch count
+    pub first_checked : Checked (take count scratch) u old_first first
+    pub second_checked : Checked (take count scratch) v old_second second
     pub checks : Decides answer.check_digits (check_digits_of F width meant (take count scratch) u ≡ check_digits_of F width meant (take count scratch) v)
     pub left : Vector F
     pub left_remains : Remains F n (rows_in F width meant (take rank rows)) vs u left
@@ -43,10 +43,10 @@ module _ (F : Field) (width : ℕ) {X : Type 0} (meant : X → Vector F) (canoni
     pub coset : (answer.remainders ≡ true) ↔ Comb F vs (less F u v)
 
   -- a run, and then the comparison; `middle` is the scratch between the two
-  pub record Cosets (calls : List (Call X)) (u v : Vector F) (old-rows rows old-scratch scratch : List X) (old-first first old-second second : List ℕ) (answer : Compared) : Type 0 where
+  pub record Cosets (calls : List (Call X)) (u v : Vector F) (old_rows rows old_scratch scratch : List X) (old_first first old_second second : List ℕ) (answer : Compared) : Type 0 where
     pub middle : List X
-    pub run : Ran calls old-rows rows old-scratch middle
-    pub compared : Comparison run.rank rows (accepted F width meant n calls) u v middle scratch old-first first old-second second answer
+    pub run : Ran calls old_rows rows old_scratch middle
+    pub compared : Comparison run.rank rows (accepted F width meant n calls) u v middle scratch old_first first old_second second answer
 
 -- why such a comparison is refused: the making, then fewer than n scratch rows or bytes, then a vector that has not length n
 abbrev pub CosetsRefused : (F : Field) (width n rows scratch first second : ℕ) (u v : Vector F) → Refusal → Type 0

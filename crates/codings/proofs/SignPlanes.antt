@@ -29,7 +29,7 @@ ones_of w m s = bit_and m ((2 ^ w - 1) - s)
 abbrev twos_of : (m s : ℕ) → ℕ
 twos_of m s = bit_and m s
 
-module _ (w m s : ℕ) (fits-m : m < 2 ^ w) (fits-s : s < 2 ^ w) where
+module _ (w m s : ℕ) (fits_m : m < 2 ^ w) (fits_s : s < 2 ^ w) where
   -- V1 is set wherever the digit is not 1, and V2 wherever it is not 2
   abbrev v1 : ℕ
   v1 = (2 ^ w - 1) - ones_of w m s
@@ -44,15 +44,15 @@ module _ (w m s : ℕ) (fits-m : m < 2 ^ w) (fits-s : s < 2 ^ w) where
   fits2 = ones_sub-lt w (twos_of m s)
 
   ones_fits : ones_of w m s < 2 ^ w
-  ones_fits = and_lt w m _ fits-m (ones_sub-lt w s)
+  ones_fits = and_lt w m _ fits_m (ones_sub-lt w s)
 
   twos_fits : twos_of m s < 2 ^ w
-  twos_fits = and_lt w m s fits-m fits-s
+  twos_fits = and_lt w m s fits_m fits_s
 
   bit1 : (k : ℕ) → k < w → bit k v1 ≡ not (bit k m && not (bit k s))
   bit1 k h =
       bit_not w k (ones_of w m s) ones_fits h
-      ∙ ap not (bit_and_lem k m _ ∙ ap (λ b. bit k m && b) (bit_not w k s fits-s h))
+      ∙ ap not (bit_and_lem k m _ ∙ ap (λ b. bit k m && b) (bit_not w k s fits_s h))
 
   bit2 : (k : ℕ) → k < w → bit k v2 ≡ not (bit k m && bit k s)
   bit2 k h = bit_not w k (twos_of m s) twos_fits h ∙ ap not (bit_and_lem k m s)
@@ -67,7 +67,7 @@ module _ (w m s : ℕ) (fits-m : m < 2 ^ w) (fits-s : s < 2 ^ w) where
   same_some =
       word_bits w _ (xor_lt w v1 v2 fits1 fits2)
       ∙ word_same w _ _ (λ k h. let a = bit1 k h in let b = bit2 k h in let x = bit_xor_lem k v1 v2 in grind arith)
-      ∙ sym (word_bits w m fits-m)
+      ∙ sym (word_bits w m fits_m)
 
   same_twos : (2 ^ w - 1) - v2 ≡ twos_of m s
   same_twos = omega (arith, twos_fits)
@@ -97,7 +97,7 @@ module _ (w m s : ℕ) (fits-m : m < 2 ^ w) (fits-s : s < 2 ^ w) where
       → Leads f3 (digits w m s) (count_trailing_zeros w m) (cond told 2 1)
   lead_some e told tells =
       let t = count_trailing_zeros w m in
-      let l = trailing_bits w m fits-m e in
+      let l = trailing_bits w m fits_m e in
       let here = l.here in
       let b = bit2 t l.within in
       let d : cond (bit t v2) 1 2 ≡ cond told 2 1 = grind arith in
@@ -155,11 +155,11 @@ module _ (w m s : ℕ) (fits-m : m < 2 ^ w) (fits-s : s < 2 ^ w) where
         ∙ ap (λ (x : ℕ). 1 + x % 2) (
         within.ones_within below (twos_of m s) twos_fits
         ∙ joined_same ◌+◌ 0 n _ _ two
-        ∙ sym (within.ones_within below s fits-s))
+        ∙ sym (within.ones_within below s fits_s))
       where
         two : (k : ℕ) → k < n → one (bit k (twos_of m s)) ≡ one (bit k s)
         two k l =
             let z = within.none_within below ((2 ^ w - 1) - m) e k l in
-            let o = bit_not w k m fits-m (omega (arith, below.most)) in
+            let o = bit_not w k m fits_m (omega (arith, below.most)) in
             let b = bit_and_lem k m s in
             grind arith

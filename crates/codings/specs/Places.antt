@@ -39,6 +39,6 @@ module _ (w : ℕ) where
   -- digits that an operation gives place by place, from their values modulo 3
   pub laid_by : (op : Digit 3 → Digit 3 → Digit 3) (o : ℕ → ℕ → ℕ) → ((a b : ℕ) → of f3 (o a b) ≡ op (of f3 a) (of f3 b)) → o 0 0 ≡ 0
       → (f g h : ℕ → ℕ) → ((k : ℕ) → k < w → h k ≡ o (f k) (g k) % 3) → (k : ℕ) → laid w h k ≡ op (laid w f k) (laid w g k)
-  laid_by op o of-o zeros f g h e = everywhere w _
-      (λ k l. laid_in h k l ∙ ap (of f3) (e k l) ∙ of_mod (o (f k) (g k)) ∙ of-o (f k) (g k) ∙ sym (ap₂ op (laid_in f k l) (laid_in g k l)))
-      (λ k l. laid_none h k l ∙ sym (ap₂ op (laid_none f k l) (laid_none g k l) ∙ sym (of-o 0 0) ∙ ap (of f3) zeros))
+  laid_by op o of_o zeros f g h e = everywhere w _
+      (λ k l. laid_in h k l ∙ ap (of f3) (e k l) ∙ of_mod (o (f k) (g k)) ∙ of_o (f k) (g k) ∙ sym (ap₂ op (laid_in f k l) (laid_in g k l)))
+      (λ k l. laid_none h k l ∙ sym (ap₂ op (laid_none f k l) (laid_none g k l) ∙ sym (of_o 0 0) ∙ ap (of f3) zeros))

@@ -38,8 +38,8 @@ module _ (w m s : ℕ) where
   magnitude_pinned fits = word_bits w m fits ∙ word_same w _ _ (λ k h. let x = value_in k h in grind arith)
 
   pub sign_pinned : m < 2 ^ w → s < 2 ^ w → bit_and m s ≡ sign_of w (digits w m s)
-  sign_pinned fits-m fits-s =
-      word_bits w (bit_and m s) (and_lt w m s fits-m fits-s)
+  sign_pinned fits_m fits_s =
+      word_bits w (bit_and m s) (and_lt w m s fits_m fits_s)
       ∙ word_same w _ _ (λ k h. let x = value_in k h in let b = bit_and_lem k m s in grind arith)
 
   pub negation_digits : (k : ℕ) → digits w m (bit_xor m s) k ≡ f3.neg (digits w m s k)
@@ -67,9 +67,9 @@ module _ (w m s n t : ℕ) where
   pub product_digits : (k : ℕ) → digits w (bit_and m n) (bit_xor s t) k ≡ f3.mul (digits w m s k) (digits w n t k)
   product_digits = laid_by w f3.mul ◌*◌ of_mul refl _ _ _ (λ k h. simp (bit_and_lem, bit_xor_lem) (grind arith))
 
-  module _ (fits-m : m < 2 ^ w) (fits-s : s < 2 ^ w) (fits-n : n < 2 ^ w) (fits-t : t < 2 ^ w) where
+  module _ (fits_m : m < 2 ^ w) (fits_s : s < 2 ^ w) (fits_n : n < 2 ^ w) (fits_t : t < 2 ^ w) where
     apart_fits : bit_or unlike (bit_xor m n) < 2 ^ w
-    apart_fits = or_lt w unlike _ (and_lt w m _ fits-m (xor_lt w s t fits-s fits-t)) (xor_lt w m n fits-m fits-n)
+    apart_fits = or_lt w unlike _ (and_lt w m _ fits_m (xor_lt w s t fits_s fits_t)) (xor_lt w m n fits_m fits_n)
 
     pub distance_ones : count_ones (bit_or unlike (bit_xor m n)) ≡ distance f3 w (digits w m s) (digits w n t)
     distance_ones = ones_bits w _ apart_fits ∙ joined_same ◌+◌ 0 w _ _ (λ k h.

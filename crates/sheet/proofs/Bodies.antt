@@ -97,12 +97,12 @@ module _ (F : Field) {X : Type 0} (meant : X → Vector F) where
         → length rows ≤ i
         → new ≡ put (length head) (body n (take i rows)) (copied ++ drop (length head) old)
         → Wrote F meant width head rows old new size
-    wrote three width old new copied size i fit long is short copy all-rows put_is =
+    wrote three width old new copied size i fit long is short copy all_rows put_is =
         let all = text F meant names rows in
         let whole : size ≡ length all = is ∙ sym length_text in
         let new_is : new ≡ all ++ drop size old =
         put_is
-        ∙ ap (λ (rs : List X). put (length head) (body n rs) (copied ++ drop (length head) old)) (take_all i rows all-rows)
+        ∙ ap (λ (rs : List X). put (length head) (body n rs) (copied ++ drop (length head) old)) (take_all i rows all_rows)
         ∙ ap (λ (t : List ℕ). put (length head) (body n rows) (t ++ drop (length head) old)) copy
         ∙ ap (λ (k : ℕ). put (length head) (body n rows) (head ++ drop k old)) (sym (zero-add (length head)))
         ∙ put_put 0 old (omega arith) head (body n rows) (length head) (sym (zero-add (length head)))

@@ -65,9 +65,9 @@ none_with_repeat text count next s found a (k, l, same) names rest n e =
     let f = first_is w (drop found.end.next text) found.end.last q.0 rest a.name q.4 q.2 (sym a.there ∙ q.3) in
     let t : names ≡ s.names ++ w ∷ f.0 = q.1 ∙ ap (λ x. s.names ++ x) f.1 in
     let b = ap length t ∙ length-append s.names (w ∷ f.0) in
-    let at-k = ap (λ x. get_or x k []) t ∙ get_or_append_left s.names (w ∷ f.0) [] k (omega arith) in
+    let at_k = ap (λ x. get_or x k []) t ∙ get_or_append_left s.names (w ∷ f.0) [] k (omega arith) in
     let at_count = ap (λ x. get_or x count []) t ∙ get_or_at s.names w f.0 [] count m in
-    let z = n.different k count (omega arith) (omega arith) (at-k ∙ same ∙ sym at_count) in
+    let z = n.different k count (omega arith) (omega arith) (at_k ∙ same ∙ sym at_count) in
     omega arith
 
 pub none_beyond : (text : List ℕ) (count next : ℕ) → Walked text count next → 64 ≤ count → NoNames text

@@ -73,7 +73,7 @@ pub digit_read : (o : Opened) (number k p q r at : ℕ) → p ≡ min (number * 
     → r ≡ min (q * 2) (2 ^ 64 - 1) → at ≡ min (r + length o.head.now) (2 ^ 64 - 1)
     → (names rows : List (List ℕ)) → Describes o names rows → number < length rows → k < length names
     → DigitAt o.text.now at (get_or (get_or rows number []) k 0)
-digit_read o number k p q r at p-is q-is r-is at-is names rows d l m =
+digit_read o number k p q r at p_is q_is r_is at_is names rows d l m =
     let w = digit_within names rows o.text.now d.sheet number k l m in
     let n = ap (λ i. number * i) d.names_are in
     let h = ap length d.head_is in

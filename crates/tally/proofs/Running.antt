@@ -59,7 +59,7 @@ module _ (F : Field) (w : ℕ) {X : Type 0} (meant : X → Vector F) (rows : Lis
       which : (o : Option Refusal) → start.void ≡ o → MatchOption o
           (Stands F w meant start (λ _. false) × (start.sizes.size ≡ n) × (start.sizes.splits ≡ s) × Makes F w meant n s rows × ((k : ℕ) (d : X) → (k ≡ n → ⊥) → get_or start.rows.now k d ≡ get_or rows k d))
           (λ e. NotMade F w meant n s rows e × (start.rows.now ≡ rows)) → Ends r × ((k : ℕ) (d : X) → (k ≡ n → ⊥) → get_or end.rows.now k d ≡ get_or rows k d)
-      which None q (t, is-size, is-splits, makes, others) = (
+      which None q (t, is_size, is_splits, makes, others) = (
         MatchResult-weaker r (answer (fold (after_call start.sizes.splits) (λ _. false) calls) now_stands)
             (λ d h. (makes, spare, subst₂ (λ m b. AllBooked m b) splits booked_is h.0, h.1 ∙ ap (λ m. permanent (matrix F meant end.rows.now) m % 3) size ∙ ap (λ x. x % 3) same))
             (λ e h. inr (makes, spare, h.0, subst₂ (λ m b. Missing m b) splits booked_is h.1)),
@@ -70,16 +70,16 @@ module _ (F : Field) (w : ℕ) {X : Type 0} (meant : X → Vector F) (rows : Lis
           now_stands = stands (λ _. false) t
 
           splits : end.sizes.splits ≡ s
-          splits = ap (λ z. z.splits) kept.sizes ∙ is-splits
+          splits = ap (λ z. z.splits) kept.sizes ∙ is_splits
 
           size : end.sizes.size ≡ n
-          size = ap (λ z. z.size) kept.sizes ∙ is-size
+          size = ap (λ z. z.size) kept.sizes ∙ is_size
 
           spare : HoldsAt (λ x. meant x ≡ zeros F) end.rows.now n
           spare = subst (HoldsAt (λ x. meant x ≡ zeros F) end.rows.now) size now_stands.spare
 
           booked_is : fold (after_call start.sizes.splits) (λ _. false) calls ≡ booked_by s calls
-          booked_is = ap (λ m. fold (after_call m) (λ _. false) calls) is-splits
+          booked_is = ap (λ m. fold (after_call m) (λ _. false) calls) is_splits
 
           there : (k : ℕ) (d : X) → (k ≡ n → ⊥) → get_or end.rows.now k d ≡ get_or rows k d
           there k d other = ap (λ xs. get_or xs k d) kept.rows ∙ others k d other

@@ -6,8 +6,8 @@ use Rattle.words.specs.Bit.{bit, differs}
 pub two_pos : zero < 2
 two_pos = zero-lt-suc 1
 
-pub no-bit {ℓ} : {A : Type ℓ} {x : ℕ} → suc (suc x) < 2 → A
-no-bit h = absurd (not-suc-le-zero (le_of_suc-le-suc (le_of_suc-le-suc h)))
+pub no_bit {ℓ} : {A : Type ℓ} {x : ℕ} → suc (suc x) < 2 → A
+no_bit h = absurd (not-suc-le-zero (le_of_suc-le-suc (le_of_suc-le-suc h)))
 
 -- an operation that commutes with the shift works bit by bit, as it does on the numbers 0 and 1
 module _ (o : ℕ → ℕ → ℕ) (p : Bool → Bool → Bool)
@@ -20,9 +20,9 @@ module _ (o : ℕ → ℕ → ℕ) (p : Bool → Bool → Bool)
   lowest zero (suc zero) hx hy = right
   lowest (suc zero) zero hx hy = left
   lowest (suc zero) (suc zero) hx hy = both
-  lowest zero (suc (suc y)) hx hy = no-bit hy
-  lowest (suc zero) (suc (suc y)) hx hy = no-bit hy
-  lowest (suc (suc x)) y hx hy = no-bit hx
+  lowest zero (suc (suc y)) hx hy = no_bit hy
+  lowest (suc zero) (suc (suc y)) hx hy = no_bit hy
+  lowest (suc (suc x)) y hx hy = no_bit hx
 
   bit_by_bit : (k a b : ℕ) → bit k (o a b) ≡ p (bit k a) (bit k b)
   unfolding bit
@@ -41,7 +41,7 @@ bit_xor_lem = bit_by_bit bit_xor differs refl refl refl refl xor_shr xor_mod
 lowest_not : (x : ℕ) → x < 2 → eqb (1 - x) 1 ≡ not (eqb x 1)
 lowest_not zero h = refl
 lowest_not (suc zero) h = refl
-lowest_not (suc (suc x)) h = no-bit h
+lowest_not (suc (suc x)) h = no_bit h
 
 -- `!a` at a word of w bits
 pub bit_not : (w k a : ℕ) → a < 2 ^ w → k < w → bit k ((2 ^ w - 1) - a) ≡ not (bit k a)

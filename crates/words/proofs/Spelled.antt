@@ -2,12 +2,12 @@
 use Rattle.std.proofs.Common.{◌≡◌, ℕ, zero, suc, ◌+◌, ◌*◌, ◌/◌, ◌%◌, ◌^◌, ◌<◌, Bool, eqb, refl, ap₂, suc-le-suc, mod-lt, zero-lt-suc, pow-suc, arith}
 use lib.Arith.{lt-one}
 use Rattle.words.specs.Bit.{bit, one, word}
-use Rattle.words.proofs.Operations.{two_pos, no-bit}
+use Rattle.words.proofs.Operations.{two_pos, no_bit}
 
 pub one_lowest : (x : ℕ) → x < 2 → x ≡ one (eqb x 1)
 one_lowest zero h = refl
 one_lowest (suc zero) h = refl
-one_lowest (suc (suc x)) h = no-bit h
+one_lowest (suc (suc x)) h = no_bit h
 
 -- two words are equal where their bits are
 pub word_same : (w : ℕ) (p q : ℕ → Bool) → ((k : ℕ) → k < w → p k ≡ q k) → word w p ≡ word w q
