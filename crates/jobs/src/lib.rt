@@ -1,4 +1,4 @@
-// What the programs do, as library functions: their answers as bytes.
+// What programs do with a sheet, as library functions: the normal form of its rows, its permanent, and the lines of a fault.
 #![tactic(auto)]
 
 mod faults;
