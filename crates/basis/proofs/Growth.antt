@@ -1,58 +1,61 @@
 -- Rows in normal form before and after one vector more, by what code left of it and where it put that.
-use Rattle.std.proofs.Common.{◌≡◌, ℕ, ◌+◌, ◌<◌, ◌≤◌, List, ◌++◌, map, length, get_or, take, drop, sym, subst, arith}
-use Rattle.std.specs.List.{insert, AllWithin}
-use Rattle.std.proofs.lemmas.List.{get_or-take, length-take-le}
-use Rattle.algebra.specs.Field.{Field}
+use Rattle.std.proofs.Common.{◌≡◌, ℕ, ◌+◌, ◌<◌, ◌≤◌, List, ◌∷◌, ◌++◌, map, length, get_or, take, drop, Ok, ◌∙◌, subst, arith, length-append}
+use Rattle.std.specs.List.{insert, All}
+use Rattle.std.proofs.lemmas.List.{get_or-take, length-take-le, take_at}
+use Rattle.std.proofs.lemmas.List.Elements.{All-same, All-append, All-take, All-cons, All-drop}
 use Rattle.algebra.specs.Vector.{Vector, Long, Leads}
 use Rattle.algebra.specs.Space.{times, less, Comb}
-use Rattle.algebra.specs.NormalForm.{reduced, lead_in, rows_in}
+use Rattle.algebra.specs.NormalForm.{reduced}
 use Rattle.algebra.proofs.Insertion.{scaled}
 use Rattle.algebra.proofs.Steps.{known, known_holds, unknown, room, grown_holds}
-use Rattle.basis.specs.Form.{Form}
+use Rattle.coding.specs.declared.vectors.Coding.{Ghosts as Coding}
+use Rattle.basis.specs.Form.{Form, lead_of, meant_rows}
 use Rattle.basis.specs.Inserted.{After}
-use Rattle.basis.specs.declared.rows.Inserted.TheVariants.{Known, Grown, Full}
-use Rattle.basis.proofs.Placing.{put_front, put_every}
+use Rattle.basis.specs.declared.taken.Taken.TheVariants.{Known, Grown}
 
-module _ (F : Field) (w : ℕ) {X : Type 0} (meant : X → Vector F) (canonical : X → Type 0) (n rank : ℕ) (rows : List X) (vs : List (Vector F)) (v u : Vector F)
-    (long : Long F n v) (form : Form F w meant canonical n rank rows vs) (left : u ≡ reduced F (rows_in F w meant (take rank rows)) v) where
-  open F use {nil}
+module _ {X : Type 0} (C : Coding X) (n rank : ℕ) (rows : List X) (vs : List (Vector C.field)) (v u : Vector C.field)
+    (long : Long C.field n v) (form : Form C n rank rows vs) (left : u ≡ reduced C.field (meant_rows C (take rank rows)) v) where
+  open C.field use {nil}
 
-  pub known_after : ((k : ℕ) → u k ≡ nil) → After F w meant canonical n rank rows vs v Known
+  pub known_after : ((k : ℕ) → u k ≡ nil) → After C n rank rows vs v (Ok Known)
   known_after z = (
-    known F w meant n form.fits (take rank rows) vs form.normal v u left z,
-    record { fits = form.fits; room = form.room; normal = known_holds F w meant n form.fits (take rank rows) vs form.normal v u left z; stored = form.stored },
+    known C.field C.width C.meant n form.fits (take rank rows) vs form.normal v u left z,
+    record { fits = form.fits; room = form.room; normal = known_holds C.field C.width C.meant n form.fits (take rank rows) vs form.normal v u left z; stored = form.stored },
   )
 
   size : length (take rank rows) ≡ rank
   size = length-take-le rank rows form.room
 
-  module _ (p d : ℕ) (lead : Leads F u p d) where
-    new : Comb F vs v → ⊥
-    new = unknown F w meant n form.fits (take rank rows) vs form.normal v u left p (lead.some, lead.below)
+  module _ (p d : ℕ) (lead : Leads C.field u p d) where
+    new : Comb C.field vs v → ⊥
+    new = unknown C.field C.width C.meant n form.fits (take rank rows) vs form.normal v u left p (lead.some, lead.below)
 
     below : rank < n
-    below = omega (arith, room F w meant n form.fits (take rank rows) vs form.normal v u left p (lead.some, lead.below) long, size)
+    below = omega (arith, room C.field C.width C.meant n form.fits (take rank rows) vs form.normal v u left p (lead.some, lead.below) long, size)
 
-    pub full_after : (xs : List X) → After F w meant canonical n rank xs vs v Full
-    full_after xs = (new, below)
+    pub no_room_after : (Comb C.field vs v → ⊥) × (rank < n)
+    no_room_after = (new, below)
 
-    -- s is what is left, scaled; ys has its lead cleared in the first rows; zs has s put in among them
-    pub grown_after : (at : ℕ) (s : X) (ys zs : List X) → rank < length rows → meant s ≡ (scaled F u p).at → canonical s → at ≤ rank →
-        ((i : ℕ) (d : X) → i < at → lead_in F w (meant (get_or rows i d)) < p) → ((d : X) → at < rank → p ≤ lead_in F w (meant (get_or rows at d))) →
-        length ys ≡ length rows → map meant (take rank ys) ≡ map (λ x. less F (meant x) (times F (meant x p) (meant s))) (take rank rows) → AllWithin canonical ys 0 rank →
-        zs ≡ insert (take rank ys) at s ++ drop (rank + 1) ys → length zs ≡ length ys →
-        After F w meant canonical n rank zs vs v Grown
-    grown_after at s ys zs r is own most before after len cleared kept put same = (
+    -- s is what is left, scaled; fs are the first rows with its lead cleared; ws are those with s put in among them
+    pub grown_after : (at : ℕ) (s : X) (fs ws rest : List X) → C.meant s ≡ (scaled C.field u p).at → C.canonical s → at ≤ length (take rank rows) →
+        ((i : ℕ) (d : X) → i < at → lead_of C (get_or (take rank rows) i d) < p) → ((d : X) → at < length (take rank rows) → p ≤ lead_of C (get_or (take rank rows) at d)) →
+        map C.meant fs ≡ map (λ x. less C.field (C.meant x) (times C.field (C.meant x p) (C.meant s))) (take rank rows) → All C.canonical fs →
+        ws ≡ insert fs at s → length ws ≡ rank + 1 →
+        After C n rank (ws ++ rest) vs v (Ok Grown)
+    grown_after at s fs ws rest is own most before after cleared kept put len = (
       new,
       below,
       record {
         fits = form.fits;
-        room = omega arith;
-        normal = grown_holds F w meant n form.fits (take rank rows) vs form.normal v u left p (lead.some, lead.below) long at s (take rank ys) (take (rank + 1) zs) is cleared
-            (omega (arith, size))
-            (λ i d h. subst (λ x. lead_in F w (meant x) < p) (sym (get_or-take rank rows i d (omega arith))) (before i d h))
-            (λ d h. subst (λ x. p ≤ lead_in F w (meant x)) (sym (get_or-take rank rows at d (omega (arith, size)))) (after d (omega (arith, size))))
-            (put_front ys zs rank at s (omega arith) most put);
-        stored = put_every ys zs rank at s (omega arith) most put canonical own kept;
+        room = omega (arith, len, length-append ws rest);
+        normal = grown_holds C.field C.width C.meant n form.fits (take rank rows) vs form.normal v u left p (lead.some, lead.below) long at s fs (take (rank + 1) (ws ++ rest)) is cleared most before after front;
+        stored = λ i d _ high. subst C.canonical (get_or-take (rank + 1) (ws ++ rest) i d high)
+            (All-same C.canonical (take (rank + 1) (ws ++ rest)) (insert fs at s) front every i d (omega (arith, high, len, length-take-le (rank + 1) (ws ++ rest) (omega (arith, len, length-append ws rest)))));
       },
     )
+      where
+        front : take (rank + 1) (ws ++ rest) ≡ insert fs at s
+        front = take_at ws rest (rank + 1) len ∙ put
+
+        every : All C.canonical (insert fs at s)
+        every = All-append C.canonical (take at fs) (s ∷ drop at fs) (All-take C.canonical at fs kept) (All-cons C.canonical s (drop at fs) own (All-drop C.canonical at fs kept))

@@ -3,10 +3,11 @@ use Rattle.std.specs.Prelude.{◌≡◌, ℕ, ◌<◌, ◌↔◌, List, slice_in
 use Rattle.algebra.specs.Field.{Field, value, of}
 use Rattle.algebra.specs.Vector.{Vector}
 use Rattle.algebra.specs.Space.{Comb}
+use Rattle.coding.specs.declared.vectors.Coding.{Ghosts as Coding}
 
 -- the rows with numbers below n hold equal digits at the places below n
-abbrev pub SameDigits : (F G : Field) {X Y : Type 0} → (X → Vector F) → (Y → Vector G) → ℕ → List X → List Y → Type 0
-SameDigits F G {X} {Y} mx my n xs ys = (i k : ℕ) (d : X) (e : Y) → i < n → k < n → value (mx (slice_index_or xs i d) k) ≡ value (my (slice_index_or ys i e) k)
+abbrev pub SameDigits : {X Y : Type 0} → Coding X → Coding Y → ℕ → List X → List Y → Type 0
+SameDigits {X} {Y} C D n xs ys = (i k : ℕ) (d : X) (e : Y) → i < n → k < n → value (C.meant (slice_index_or xs i d) k) ≡ value (D.meant (slice_index_or ys i e) k)
 
 -- the same vectors of numbers, taken as digits, are combinations
 abbrev pub SameSpans : (F G : Field) → List (Vector F) → List (Vector G) → Type 0

@@ -1,24 +1,22 @@
 -- What the calls of a basis answer, and when they refuse.
-use Rattle.std.specs.Prelude.{◌≡◌, ℕ, ◌+◌, ◌<◌, ◌≤◌, ◌⊎◌, List, map, length, take, drop, Err, codes, Option, Result, MatchOption, MatchResult}
+use Rattle.std.specs.Prelude.{◌≡◌, ℕ, ◌+◌, ◌<◌, ◌≤◌, ◌⊎◌, List, map, length, take, drop, codes}
 use Rattle.std.specs.List.{AllWithin}
 use Rattle.algebra.specs.Field.{Field, value}
 use Rattle.algebra.specs.Vector.{Vector, Long, dot}
 use Rattle.algebra.specs.Space.{less, Comb}
-use Rattle.algebra.specs.NormalForm.{Row, Clear, rows_in}
+use Rattle.algebra.specs.NormalForm.{Row, Clear}
 use Rattle.algebra.specs.Dual.{DualForm}
+use Rattle.coding.specs.declared.vectors.Coding.{Ghosts as Coding}
 use Rattle.coding.specs.Lengths.{InRange, OutOfRange}
 use Rattle.coding.specs.Refusals.{number_of}
 use Rattle.coding.specs.declared.refusals.Refusal.{Refusal}
+use Rattle.basis.specs.Form.{meant_rows}
 use Rattle.basis.specs.declared.taken.Taken.{Taken}
 use Rattle.basis.specs.Words.{word_of}
 
 -- why no basis of length n is made over so many rows
 abbrev pub NotMade : (width n rows : ℕ) → Refusal → Type 0
 NotMade width n rows e = ((number_of e ≡ 6) × OutOfRange width n) ⊎ ((number_of e ≡ 8) × InRange width n × (rows < n))
-
--- on a void basis the refusal of its making, and otherwise what is said of the answer and of the refusal
-abbrev pub Unless : {A : Type 0} → Option Refusal → Result A Refusal → (A → Type 0) → (Refusal → Type 0) → Type 0
-Unless void r P Q = MatchOption void (MatchResult r P Q) (λ e. r ≡ Err e)
 
 -- refused as not of length n
 abbrev pub Beyond : (F : Field) → ℕ → Vector F → Refusal → Type 0
@@ -35,13 +33,13 @@ pub record Remains (F : Field) (n : ℕ) (rows : List (Row F)) (vs : List (Vecto
   pub clear : Clear F rows r
 
 -- the first `count` rows written are the normal form of the dual, stored as answers are, and later rows are as they were
-pub record WroteDual (F : Field) (width : ℕ) {X : Type 0} (meant : X → Vector F) (canonical : X → Type 0) (n rank : ℕ) (vs : List (Vector F)) (old new : List X) (count : ℕ) : Type 0 where
+pub record WroteDual {X : Type 0} (C : Coding X) (n rank : ℕ) (vs : List (Vector C.field)) (old new : List X) (count : ℕ) : Type 0 where
   pub number : count + rank ≡ n
   pub room : count ≤ length new
-  pub form : DualForm F n (rows_in F width meant (take count new)) vs
-  pub stored : AllWithin canonical new 0 count
+  pub form : DualForm C.field n (meant_rows C (take count new)) vs
+  pub stored : AllWithin C.canonical new 0 count
   pub rest : drop count new ≡ drop count old
 
 -- the values of the dot products of a vector with the rows, in their order
-abbrev pub check_digits_of : (F : Field) (width : ℕ) {X : Type 0} (meant : X → Vector F) → List X → Vector F → List ℕ
-check_digits_of F width meant rows v = map (λ x. value (dot F width (meant x) v)) rows
+abbrev pub check_digits_of : {X : Type 0} (C : Coding X) → List X → Vector C.field → List ℕ
+check_digits_of C rows v = map (λ x. value (dot C.field C.width (C.meant x) v)) rows

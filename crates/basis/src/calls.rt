@@ -16,7 +16,8 @@ pub enum Question<C> {
     Contains(C),
 }
 
-// One call of a list. A dual uses so many of the first rows of the scratch, or all where there are fewer.
+// One call of a list. Calls are values and no closures: what a list has had accepted is computed from the calls alone. A
+// dual uses so many of the first rows of the scratch, or all where there are fewer.
 #[derive(Clone, Copy)]
 pub enum Call<C> {
     TakeIn(C),
@@ -45,20 +46,17 @@ fn ask<C: Coding>(basis: &Basis<'_, C>, question: Question<C>) {
 
 // Writes the dual into the first rows of the scratch, if they are enough.
 fn dual_within<C: Coding>(basis: &Basis<'_, C>, scratch: &mut [C], room: usize)
-    ensures { (vs : List (Vector C.Coding.field)) → Stands C.Coding.field C.Coding.width C.Coding.meant C.Coding.canonical basis.now vs
+    ensures { (vs : List (Vector C.Coding.field)) → Stands C.Coding basis.now vs
         → drop basis.now.sizes.length scratch.new ≡ drop basis.now.sizes.length scratch.old }
 {
-    if room < scratch.len() {
-        let _ = basis.dual(&mut scratch[..room]);
-    } else {
-        let _ = basis.dual(scratch);
-    }
+    let room = room.min(scratch.len());
+    let _ = basis.dual(&mut scratch[..room]);
 }
 
 // One call of a list. Its answer, or its refusal, is left.
 fn apply<C: Coding>(basis: &mut Basis<'_, C>, call: Call<C>, scratch: &mut [C])
-    ensures stands { (vs : List (Vector C.Coding.field)) → Stands C.Coding.field C.Coding.width C.Coding.meant C.Coding.canonical basis.old vs
-        → Stands C.Coding.field C.Coding.width C.Coding.meant C.Coding.canonical basis.new (after_call C.Coding.field C.Coding.width C.Coding.meant basis.old.sizes.length vs call)
+    ensures stands { (vs : List (Vector C.Coding.field)) → Stands C.Coding basis.old vs
+        → Stands C.Coding basis.new (after_call C.Coding basis.old.sizes.length vs call)
         × (drop basis.old.sizes.length scratch.new ≡ drop basis.old.sizes.length scratch.old) }
     ensures kept { Kept basis.old basis.new }
 {
@@ -76,12 +74,12 @@ fn apply<C: Coding>(basis: &mut Basis<'_, C>, call: Call<C>, scratch: &mut [C])
 
 // All calls of a list, in their order; the run goes on past refused ones.
 pub(crate) fn apply_all<C: Coding>(basis: &mut Basis<'_, C>, calls: &[Call<C>], scratch: &mut [C])
-    ensures stands { (vs : List (Vector C.Coding.field)) → Stands C.Coding.field C.Coding.width C.Coding.meant C.Coding.canonical basis.old vs
-        → Stands C.Coding.field C.Coding.width C.Coding.meant C.Coding.canonical basis.new (fold (after_call C.Coding.field C.Coding.width C.Coding.meant basis.old.sizes.length) vs calls.now)
+    ensures stands { (vs : List (Vector C.Coding.field)) → Stands C.Coding basis.old vs
+        → Stands C.Coding basis.new (fold (after_call C.Coding basis.old.sizes.length) vs calls.now)
         × (drop basis.old.sizes.length scratch.new ≡ drop basis.old.sizes.length scratch.old) }
     ensures kept { Kept basis.old basis.new }
 {
-    for i in 0..calls.len() {
-        apply(basis, calls[i], scratch);
+    for call in calls {
+        apply(basis, *call, scratch);
     }
 }

@@ -12,8 +12,7 @@ ghost use Rattle.basis.specs.Runs.{Ran, Comparison, Cosets, CosetsRefused};
 use crate::bases::{Basis, can_make};
 use crate::calls::{Call, apply_all};
 use crate::checks::check_digits;
-use crate::rows::first_of;
-use coding::{Coding, Refusal, digit_at, is_long};
+use coding::{Coding, Refusal, check_long, check_room, digit_at, first_of};
 
 // Whether two vectors have equal check digits, and whether they leave equal remainders.
 #[derive(Clone, Copy, PartialEq, Eq, Debug)]
@@ -22,16 +21,16 @@ pub struct Compared {
     pub remainders: bool,
 }
 
-// Makes a basis in the rows and runs the calls on it.
+// Makes a basis in the rows and runs the calls on it. The parameters are no struct, as in `same_rows`.
 fn run<C: Coding>(n: usize, rows: &mut [C], calls: &[Call<C>], scratch: &mut [C])
     requires { InRange C.Coding.width n × (n ≤ length rows.old) }
-    ensures { Ran C.Coding.field C.Coding.width C.Coding.meant C.Coding.canonical n calls.now rows.old rows.new scratch.old scratch.new }
+    ensures { Ran C.Coding n calls.now rows.old rows.new scratch.old scratch.new }
 {
     let mut basis = Basis::make(rows, n);
     apply_all(&mut basis, calls, scratch);
 }
 
-// Whether two vectors hold equal digits at the places below n.
+// Whether two vectors hold equal digits at the places below n. It is no `==`, since their codings may differ.
 fn same_digits<C: Coding, D: Coding>(first: C, second: D, n: usize) -> bool
     ensures { Decides result ((k : ℕ) → k < n → value (C.Coding.meant first k) ≡ value (D.Coding.meant second k)) }
 {
@@ -43,13 +42,13 @@ fn same_digits<C: Coding, D: Coding>(first: C, second: D, n: usize) -> bool
     true
 }
 
-// Whether the rows below n of two lists hold equal digits.
+// Whether the rows of two lists hold equal digits at the places below n.
 fn rows_agree<C: Coding, D: Coding>(first: &[C], second: &[D], n: usize) -> bool
-    requires { (n ≤ length first.now) × (n ≤ length second.now) }
-    ensures { Decides result (SameDigits C.Coding.field D.Coding.field C.Coding.meant D.Coding.meant n first.now second.now) }
+    requires { (length first.now ≡ n) × (length second.now ≡ n) }
+    ensures { Decides result (SameDigits C.Coding D.Coding n first.now second.now) }
 {
-    for i in 0..n {
-        if !same_digits(first[i], second[i], n) {
+    for (row, other) in first.iter().zip(second) {
+        if !same_digits(*row, *other, n) {
             return false;
         }
     }
@@ -59,6 +58,7 @@ fn rows_agree<C: Coding, D: Coding>(first: &[C], second: &[D], n: usize) -> bool
 // Runs two lists of calls on two bases of one length, which may have different codings, and answers whether their
 // rows below that length agree digit for digit. Of two codings of one field, they do exactly when the accepted
 // vectors have the same combinations. A making that is refused, the first basis's before the second's, leaves all rows.
+// The rows, calls and scratch of a run are no struct: of lent rows in one, a clause has only `run.exit.0.now` for `rows.new`.
 pub fn same_rows<C: Coding, D: Coding>(
     n: usize,
     rows: &mut [C],
@@ -69,15 +69,15 @@ pub fn same_rows<C: Coding, D: Coding>(
     other_scratch: &mut [D],
 ) -> Result<bool, Refusal>
     ensures answer { MatchResult result
-        (λ yes. Decides yes (SameDigits C.Coding.field D.Coding.field C.Coding.meant D.Coding.meant n rows.new other_rows.new)
+        (λ yes. Decides yes (SameDigits C.Coding D.Coding n rows.new other_rows.new)
         × (C.Coding.field ≡ D.Coding.field
-        → SameDigits C.Coding.field D.Coding.field C.Coding.meant D.Coding.meant n rows.new other_rows.new
-        ↔ SameSpans C.Coding.field D.Coding.field (accepted C.Coding.field C.Coding.width C.Coding.meant n calls.now) (accepted D.Coding.field D.Coding.width D.Coding.meant n other_calls.now)))
+        → SameDigits C.Coding D.Coding n rows.new other_rows.new
+        ↔ SameSpans C.Coding.field D.Coding.field (accepted C.Coding n calls.now) (accepted D.Coding n other_calls.now)))
         (λ e. NotMade C.Coding.width n (length rows.old) e
         ⊎ (InRange C.Coding.width n × (n ≤ length rows.old) × NotMade D.Coding.width n (length other_rows.old) e)) }
     ensures memory { MatchResult result
-        (λ _. Ran C.Coding.field C.Coding.width C.Coding.meant C.Coding.canonical n calls.now rows.old rows.new scratch.old scratch.new
-        × Ran D.Coding.field D.Coding.width D.Coding.meant D.Coding.canonical n other_calls.now other_rows.old other_rows.new other_scratch.old other_scratch.new)
+        (λ _. Ran C.Coding n calls.now rows.old rows.new scratch.old scratch.new
+        × Ran D.Coding n other_calls.now other_rows.old other_rows.new other_scratch.old other_scratch.new)
         (λ _. (rows.new ≡ rows.old) × (scratch.new ≡ scratch.old)
         × (other_rows.new ≡ other_rows.old) × (other_scratch.new ≡ other_scratch.old)) }
 {
@@ -85,29 +85,7 @@ pub fn same_rows<C: Coding, D: Coding>(
     can_make::<D>(n, other_rows.len())?;
     run(n, rows, calls, scratch);
     run(n, other_rows, other_calls, other_scratch);
-    Ok(rows_agree(rows, other_rows, n))
-}
-
-// Whether two vectors both have length n.
-fn both_long<C: Coding>(first: C, second: C, n: usize) -> bool
-    ensures { Decides result (Long C.Coding.field n (C.Coding.meant first) × Long C.Coding.field n (C.Coding.meant second)) }
-{
-    is_long(first, n) && is_long(second, n)
-}
-
-// Whether two lists of bytes are equal.
-fn same_bytes(first: &[u8], second: &[u8]) -> bool
-    ensures { Decides result (first.now ≡ second.now) }
-{
-    if first.len() != second.len() {
-        return false;
-    }
-    for i in 0..first.len() {
-        if first[i] != second[i] {
-            return false;
-        }
-    }
-    true
+    Ok(rows_agree(&rows[..n], &other_rows[..n], n))
 }
 
 // Writes the dual and the check digits of two vectors against it, and compares those and what is left of both. A basis
@@ -121,10 +99,10 @@ fn compare<C: Coding>(
     second: C,
     second_digits: &mut [u8],
 ) -> Result<Compared, Refusal>
-    ensures { (vs : List (Vector C.Coding.field)) → Stands C.Coding.field C.Coding.width C.Coding.meant C.Coding.canonical basis.now vs → basis.now.sizes.length ≡ n
+    ensures { (vs : List (Vector C.Coding.field)) → Stands C.Coding basis.now vs → basis.now.sizes.length ≡ n
         → n ≤ length scratch.old → n ≤ length first_digits.old → n ≤ length second_digits.old
         → Long C.Coding.field n (C.Coding.meant first) → Long C.Coding.field n (C.Coding.meant second)
-        → MatchResult result (Comparison C.Coding.field C.Coding.width C.Coding.meant C.Coding.canonical n basis.now.sizes.rank basis.now.rows.now vs (C.Coding.meant first) (C.Coding.meant second) scratch.old scratch.new first_digits.old first_digits.new second_digits.old second_digits.new) (λ _. ⊥) }
+        → MatchResult result (Comparison C.Coding n basis.now.sizes.rank basis.now.rows.now vs (C.Coding.meant first) (C.Coding.meant second) scratch.old scratch.new first_digits.old first_digits.new second_digits.old second_digits.new) (λ _. ⊥) }
 {
     let count = basis.dual(scratch)?;
     let dual = first_of(scratch, count);
@@ -133,10 +111,7 @@ fn compare<C: Coding>(
     let left = basis.remainder(first)?;
     let right = basis.remainder(second)?;
     Ok(Compared {
-        check_digits: same_bytes(
-            first_of(first_digits, count),
-            first_of(second_digits, count),
-        ),
+        check_digits: first_of(first_digits, count) == first_of(second_digits, count),
         remainders: same_digits(left, right, n),
     })
 }
@@ -144,7 +119,7 @@ fn compare<C: Coding>(
 // Runs a list of calls on a basis, then writes its dual into the scratch and the check digits of two vectors against it
 // into the bytes, and compares those and the remainders. They agree, and are equal exactly when the difference of the
 // vectors is a combination of the accepted ones. Checked before anything is written: the making, the room for n rows
-// and n bytes each, and the length of both vectors.
+// and n bytes each, and the length of both vectors. The parameters are no structs here either, as in `same_rows`.
 pub fn same_coset<C: Coding>(
     n: usize,
     rows: &mut [C],
@@ -156,20 +131,19 @@ pub fn same_coset<C: Coding>(
     second_digits: &mut [u8],
 ) -> Result<Compared, Refusal>
     ensures answer { MatchResult result
-        (Cosets C.Coding.field C.Coding.width C.Coding.meant C.Coding.canonical n calls.now (C.Coding.meant first) (C.Coding.meant second) rows.old rows.new scratch.old scratch.new first_digits.old first_digits.new second_digits.old second_digits.new)
-        (CosetsRefused C.Coding.field C.Coding.width n (length rows.old) (length scratch.old) (length first_digits.old) (length second_digits.old) (C.Coding.meant first) (C.Coding.meant second)) }
+        (Cosets C.Coding n calls.now (C.Coding.meant first) (C.Coding.meant second) rows.old rows.new scratch.old scratch.new first_digits.old first_digits.new second_digits.old second_digits.new)
+        (CosetsRefused C.Coding n (length rows.old) (length scratch.old) (length first_digits.old) (length second_digits.old) (C.Coding.meant first) (C.Coding.meant second)) }
     ensures room { MatchResult result
         (λ _. (n ≤ length scratch.old) × (n ≤ length first_digits.old) × (n ≤ length second_digits.old) × Long C.Coding.field n (C.Coding.meant first) × Long C.Coding.field n (C.Coding.meant second))
         (λ _. Unit {0}) }
     ensures refused { OnErr result ((rows.new ≡ rows.old) × (scratch.new ≡ scratch.old) × (first_digits.new ≡ first_digits.old) × (second_digits.new ≡ second_digits.old)) }
 {
     can_make::<C>(n, rows.len())?;
-    if scratch.len() < n || first_digits.len() < n || second_digits.len() < n {
-        return Err(Refusal::TooLittleRoom);
-    }
-    if !both_long(first, second, n) {
-        return Err(Refusal::BeyondLength);
-    }
+    check_room(n, scratch.len())?;
+    check_room(n, first_digits.len())?;
+    check_room(n, second_digits.len())?;
+    check_long(first, n)?;
+    check_long(second, n)?;
     let mut basis = Basis::make(rows, n);
     apply_all(&mut basis, calls, scratch);
     compare(

@@ -10,6 +10,7 @@ pub enum Taken {
 }
 
 impl Taken {
+    // The word by which contracts tell the two apart. It is no `Display`, so that it is compared without memory.
     pub fn word(self) -> &'static str
         ensures { result.now ≡ word_of self }
     {

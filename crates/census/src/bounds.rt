@@ -1,5 +1,5 @@
 // The greatest sizes of a tally, and the sizes after them.
-use coding::{Coding, Ternary};
+use coding::{Coding, Outcome, Ternary};
 use codings::{Planes, Single};
 use std::io;
 use tally::Tally;
@@ -14,11 +14,8 @@ pub fn print(rt: &HostRuntime) -> io::Result<()> {
 }
 
 fn making<C: Ternary>(rt: &HostRuntime, name: &str, rows: &mut [C], size: usize) -> io::Result<()> {
-    match Tally::make(rows, size, 6).made() {
-        Ok(_) => println!(rt; "{name} tally of size {size}: passes"),
-        Err(refusal) => {
-            let number = refusal.number();
-            println!(rt; "{name} tally of size {size}: refused by {number}")
-        }
-    }
+    println!(rt;
+        "{name} tally of size {size}: {}",
+        Outcome::passes(Tally::make(rows, size, 6).made())
+    )
 }

@@ -8,14 +8,12 @@ use tally::Tally;
 pub fn print(rt: &HostRuntime, n: usize, count: u32) -> io::Result<()> {
     match zeros(n, count) {
         Ok(found) => println!(rt; "size {n}: {found} of {count} matrices have permanent 0"),
-        Err(refusal) => {
-            let number = refusal.number();
-            println!(rt; "size {n}: refused by {number}")
-        }
+        Err(refusal) => println!(rt; "size {n}: refused by {refusal}"),
     }
 }
 
 fn zeros(n: usize, count: u32) -> Result<u32, Refusal> {
+    // Counted by hand: a closure for `filter` could not hand a refusal on.
     let mut found = 0u32;
     for number in 0..count {
         let mut rows = matrix(n, number)?;

@@ -10,14 +10,8 @@ pub fn print(rt: &HostRuntime) -> io::Result<()> {
     let single = in_single();
     told(rt, "single", single)?;
     match (planes, single) {
-        (Ok(first), Ok(second)) => {
-            let word = if first == second {
-                "equal"
-            } else {
-                "different"
-            };
-            println!(rt; "results {word}")
-        }
+        (Ok(first), Ok(second)) if first == second => println!(rt; "results equal"),
+        (Ok(_), Ok(_)) => println!(rt; "results different"),
         _ => println!(rt; "a result is missing"),
     }
 }
@@ -25,10 +19,7 @@ pub fn print(rt: &HostRuntime) -> io::Result<()> {
 fn told(rt: &HostRuntime, name: &str, res: Result<u8, Refusal>) -> io::Result<()> {
     match res {
         Ok(digit) => println!(rt; "{name} 110 011 101: result {digit}"),
-        Err(refusal) => {
-            let number = refusal.number();
-            println!(rt; "{name} 110 011 101: refused by {number}")
-        }
+        Err(refusal) => println!(rt; "{name} 110 011 101: refused by {refusal}"),
     }
 }
 
@@ -37,8 +28,12 @@ fn pair<C: Coding>(first: usize, second: usize) -> Result<C, Refusal> {
     C::zero().change(first, 1)?.change(second, 1)
 }
 
+// The three rows, and the row after them.
+fn matrix<C: Coding>() -> Result<[C; 4], Refusal> {
+    Ok([pair(0, 1)?, pair(1, 2)?, pair(0, 2)?, C::zero()])
+}
+
 fn in_planes() -> Result<u8, Refusal> {
-    let mut rows: [Planes; 4] = [pair(0, 1)?, pair(1, 2)?, pair(0, 2)?, Planes::zero()];
     let calls = [
         Call::Work(1),
         Call::Work(1),
@@ -47,11 +42,10 @@ fn in_planes() -> Result<u8, Refusal> {
         Call::Work(0),
         Call::Work(2),
     ];
-    result_after(&mut rows, 3, 1, &calls, &mut Unwatched)
+    result_after(&mut matrix::<Planes>()?, 3, 1, &calls, &mut Unwatched)
 }
 
 fn in_single() -> Result<u8, Refusal> {
-    let mut rows: [Single; 4] = [pair(0, 1)?, pair(1, 2)?, pair(0, 2)?, Single::zero()];
     let calls = [
         Call::Work(3),
         Call::Work(0),
@@ -61,5 +55,5 @@ fn in_single() -> Result<u8, Refusal> {
         Call::Work(1),
         Call::Work(3),
     ];
-    result_after(&mut rows, 3, 2, &calls, &mut Unwatched)
+    result_after(&mut matrix::<Single>()?, 3, 2, &calls, &mut Unwatched)
 }

@@ -2,12 +2,16 @@
 #![tactic(auto)]
 
 mod lengths;
+mod outcomes;
+mod parts;
 mod refusals;
 mod vectors;
 mod walks;
 mod weights;
 
-pub use lengths::{digit_at, is_long};
+pub use lengths::{all_long, check_length, check_long, check_place, check_room, digit_at, is_long};
+pub use outcomes::Outcome;
+pub use parts::first_of;
 pub use refusals::Refusal;
 pub use vectors::{Coding, Lead, Ternary};
 pub use walks::walk;

@@ -4,6 +4,7 @@ ghost use Rattle.coding.specs.Refusals.{number_of};
 ghost use Rattle.coding.specs.Lengths.{InRange, OutOfRange};
 ghost use Rattle.coding.specs.Walks.{Walked};
 
+use crate::lengths::check_length;
 use crate::refusals::Refusal;
 use crate::vectors::Ternary;
 
@@ -23,21 +24,20 @@ fn enough(rows: usize, n: usize) -> bool
 // their number. The length is checked before the room.
 pub fn walk<C: Ternary>(n: usize, output: &mut [C]) -> Result<usize, Refusal>
     ensures { MatchResult result
-        (λ m. InRange C.Coding.width n × Walked C.Coding.field C.Coding.meant C.Coding.canonical n m output.old output.new)
+        (λ m. InRange C.Coding.width n × Walked C.Coding n m output.old output.new)
         (λ e. (output.new ≡ output.old)
         × (((number_of e ≡ 6) × OutOfRange C.Coding.width n)
         ⊎ ((number_of e ≡ 8) × InRange C.Coding.width n × (length output.old < C.Coding.field.size ^ n)))) }
 {
-    if n == 0 || n > C::width() {
-        return Err(Refusal::LengthOutOfRange);
-    }
+    check_length(n, C::width())?;
     if !enough(output.len(), n) {
         return Err(Refusal::TooLittleRoom);
     }
     let mut x = C::zero();
     output[0] = x;
     let mut count = 1;
-    // Never refused: the length is in range, and each vector has it.
+    // Counted by hand: the walk ends by the last vector and not by the rows, and the number is the answer. No successor is
+    // refused, since the length is in range and each vector has it.
     while let Some(y) = x.next(n)? {
         output[count] = y;
         count += 1;

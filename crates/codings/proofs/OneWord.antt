@@ -48,14 +48,17 @@ module _ (n : ℕ) where
   read_word fits = means (read_halves fits) (read_full 32 _ _ _ read_bit) (read_digits 32 _ _ _ read_bit)
 
 -- the lower halves of two planes of 64 places, side by side
-pub cut_word : (v1 v2 n : ℕ) (v : Vector f3) → Full 64 v1 v2 → ((k : ℕ) → digits 64 v1 v2 k ≡ v k) → Long f3 32 v
-    → Halves n (lower v1) (lower v2) → Means n v
-cut_word v1 v2 n v full same long x = means x
-    (λ k h. ap₂ ◌||◌ (bit_mod 32 k v1 h) (bit_mod 32 k v2 h) ∙ full k (omega arith))
-    (λ k.
-    same_below 32 64 (lit≤ tt) (lower v1) (lower v2) v1 v2 (λ k h. bit_mod 32 k v1 h) (λ k h. bit_mod 32 k v2 h)
+pub cut_full : (v1 v2 n : ℕ) → Full 64 v1 v2 → Halves n (lower v1) (lower v2) → FullHalves n
+cut_full v1 v2 n full x k h =
+    ap₂ (λ a b. bit k a || bit k b) x.upper_is x.lower_is ∙ ap₂ ◌||◌ (bit_mod 32 k v1 h) (bit_mod 32 k v2 h) ∙ full k (omega arith)
+
+pub cut_digits : (v1 v2 n : ℕ) (v : Vector f3) → ((k : ℕ) → digits 64 v1 v2 k ≡ v k) → Long f3 32 v
+    → Halves n (lower v1) (lower v2) → (k : ℕ) → in_halves n k ≡ v k
+cut_digits v1 v2 n v same long x k =
+    ap₂ (λ a b. digits 32 a b k) x.upper_is x.lower_is
+    ∙ same_below 32 64 (lit≤ tt) (lower v1) (lower v2) v1 v2 (λ k h. bit_mod 32 k v1 h) (λ k h. bit_mod 32 k v2 h)
     (λ k h. same k ∙ long k h) k
-    ∙ same k)
+    ∙ same k
 
 pub zero_word : Means (2 ^ 64 - 1) (λ k. f3.nil)
 zero_word = means (whole (2 ^ 64 - 1)) (zero_full 32) (zero_digits 32)

@@ -7,7 +7,9 @@ ghost use Rattle.codings.specs.Sign.{meant_by, Alike};
 ghost use Rattle.codings.specs.SignWordsLemmas.{digits_out};
 ghost use Rattle.std.proofs.Common.{rules};
 
-use coding::{Coding, Lead, Refusal, Ternary};
+use crate::digits;
+use crate::digits::check_digit;
+use coding::{Coding, Lead, Refusal, Ternary, check_length, check_place};
 
 // Bits (magnitude, sign) at a place: (1,0) is 1, (1,1) is 2, and both (0,0) and (0,1) are 0. Vectors lie in callers'
 // rows, so any two words may be stored. The digits of an answer pin all of it but its loose bits, those of the sign at a 0.
@@ -63,9 +65,7 @@ impl Coding for Signs {
     }
 
     fn digit(self, place: usize) -> Result<u8, Refusal> {
-        if place >= 64 {
-            return Err(Refusal::NumberOutOfRange);
-        }
+        check_place(place, 64)?;
         if !words::holds(self.magnitude, place) {
             Ok(0)
         } else if words::holds(self.sign, place) {
@@ -76,12 +76,8 @@ impl Coding for Signs {
     }
 
     fn change(self, place: usize, digit: u8) -> Result<Signs, Refusal> {
-        if place >= 64 {
-            return Err(Refusal::NumberOutOfRange);
-        }
-        if digit > 2 {
-            return Err(Refusal::DigitTooLarge);
-        }
+        check_place(place, 64)?;
+        check_digit(digit)?;
         Ok(Signs {
             magnitude: words::put(self.magnitude, place, digit != 0),
             sign: words::put(self.sign, place, digit == 2),
@@ -123,7 +119,7 @@ impl Coding for Signs {
         }
     }
 
-    // Two times a digit is its negation.
+    // Two times a digit is its negation. Scaled by 1 the words stay as they are, where planes are stored as they are read.
     fn scaled(self, digit: u8) -> Result<Signs, Refusal> {
         match digit {
             0 => Ok(Signs::zero()),
@@ -133,12 +129,8 @@ impl Coding for Signs {
         }
     }
 
-    // Modulo 3 each digit but 0 is its own inverse.
     fn inverse(digit: u8) -> Result<u8, Refusal> {
-        match digit {
-            0..=2 => Ok(digit),
-            _ => Err(Refusal::DigitTooLarge),
-        }
+        digits::inverse(digit)
     }
 
     // Both from ten word operations.
@@ -193,9 +185,7 @@ impl Ternary for Signs {
     // Adding one to the twos clears those below the lowest other digit, and sets the place of that digit. Together with
     // the ones this is where the successor is not 0, and its twos are where this vector has its ones.
     fn next(self, n: usize) -> Result<Option<Signs>, Refusal> {
-        if n == 0 || n > 64 {
-            return Err(Refusal::LengthOutOfRange);
-        }
+        check_length(n, 64)?;
         let low = words::below(n);
         if self.magnitude & !low != 0 {
             return Err(Refusal::BeyondLength);
@@ -212,9 +202,7 @@ impl Ternary for Signs {
     }
 
     fn full_product(self, n: usize) -> Result<u8, Refusal> {
-        if n == 0 || n > 64 {
-            return Err(Refusal::LengthOutOfRange);
-        }
+        check_length(n, 64)?;
         let low = words::below(n);
         if !self.magnitude & low != 0 {
             return Ok(0);

@@ -4,12 +4,14 @@ ghost use Rattle.algebra.specs.Modulo.{f3};
 ghost use Rattle.algebra.specs.Vector.{Long};
 ghost use Rattle.codings.specs.Halves.{upper, lower, Halves};
 ghost use Rattle.codings.specs.Plane.{meant_by as meant_by_planes};
-ghost use Rattle.codings.specs.Single.{in_halves, FullHalves, Means, spelled_word, meant_by, Canonical};
+ghost use Rattle.codings.specs.Single.{in_halves, FullHalves, spelled_word, meant_by, Canonical};
 ghost use Rattle.codings.specs.TwoPlanesLemmas.{digits_out};
 ghost use Rattle.std.proofs.Common.{rules};
 
+use crate::digits;
+use crate::full::FullWord;
 use crate::planes::Planes;
-use coding::{Coding, Lead, Refusal, Ternary};
+use coding::{Coding, Lead, Refusal, Ternary, check_length, check_place};
 
 // The lower half of a word.
 const LOW: u64 = 0xFFFF_FFFF;
@@ -32,13 +34,22 @@ impl Single {
         self.word | (!self.word << 32)
     }
 
-    // The same digits in two planes. Both planes are set from place 32 on, so the digits there are 0.
-    fn wide(self) -> Planes
-        ensures { (k : ℕ) → meant_by_planes result k ≡ meant_by self k }
+    // The same with the fact that no place is empty.
+    fn full(self) -> FullWord
+        ensures { (k : ℕ) → in_halves result.word k ≡ meant_by self k }
     {
+        FullWord { word: self.read() }
+    }
+}
+
+// The same digits in two planes. Both planes are set from place 32 on, so the digits there are 0.
+impl From<Single> for Planes {
+    ghost from_gives = { λ x p. (k : ℕ) → meant_by_planes p k ≡ meant_by x k };
+
+    fn from(vector: Single) -> Planes {
         Planes {
-            first: (self.word >> 32) | !LOW,
-            second: self.word | !LOW,
+            first: (vector.word >> 32) | !LOW,
+            second: vector.word | !LOW,
         }
     }
 }
@@ -57,30 +68,47 @@ fn paired(first: u64, second: u64) -> u64
     (first << 32) | (second & LOW)
 }
 
-// The answer that stores this word.
-fn stored(word: u64) -> Single
-    ensures digits { (k : ℕ) → meant_by result k ≡ in_halves word k }
-    ensures stored { FullHalves word → Canonical result }
-{
-    Single { word }
+impl FullWord {
+    // The answer that stores this word.
+    fn stored(self) -> Single
+        ensures digits { (k : ℕ) → meant_by result k ≡ in_halves self.word k }
+        ensures stored { Canonical result }
+    {
+        Single { word: self.word }
+    }
+
+    // The negated vector has its halves swapped.
+    fn negation(self) -> FullWord
+        ensures { (k : ℕ) → in_halves result.word k ≡ f3.neg (in_halves self.word k) }
+    {
+        FullWord {
+            word: swapped(self.word),
+        }
+    }
+
+    // In three word operations and two swaps.
+    fn sum(self, other: FullWord) -> FullWord
+        ensures { (k : ℕ) → in_halves result.word k ≡ f3.add (in_halves self.word k) (in_halves other.word k) }
+    {
+        let t = self.word ^ other.word;
+        let u = t ^ swapped(self.word);
+        FullWord {
+            word: swapped(t) | u,
+        }
+    }
 }
 
-// The answer with the digits of two planes, if they hold none from place 32 on.
+// The answer with the digits of two planes, if they hold none from place 32 on. It is no `TryFrom`, whose refusal would
+// never come, and no `From`, since not all planes have such an answer.
 fn narrow(planes: Planes) -> Single
     ensures digits { Long f3 32 (meant_by_planes planes) → (k : ℕ) → meant_by result k ≡ meant_by_planes planes k }
-    ensures stored { Long f3 32 (meant_by_planes planes) → Canonical result }
+    ensures stored { Canonical result }
 {
     let (v1, v2) = planes.read();
-    stored(paired(v1, v2))
-}
-
-// The word of the sum, in three word operations and two swaps.
-fn added(v: u64, w: u64) -> u64
-    ensures { FullHalves v → FullHalves w → Means result (λ k. f3.add (in_halves v k) (in_halves w k)) }
-{
-    let t = v ^ w;
-    let u = t ^ swapped(v);
-    swapped(t) | u
+    let cut = FullWord {
+        word: paired(v1, v2),
+    };
+    cut.stored()
 }
 
 // What works on both halves at once is done on the word; the rest is the plane coding's, on the widened vector.
@@ -104,77 +132,77 @@ impl Coding for Single {
     }
 
     fn zero() -> Single {
-        stored(u64::MAX)
+        FullWord { word: u64::MAX }.stored()
     }
 
     fn digit(self, place: usize) -> Result<u8, Refusal> {
-        if place >= 32 {
-            return Err(Refusal::NumberOutOfRange);
-        }
-        self.wide().digit(place)
+        check_place(place, 32)?;
+        Planes::from(self).digit(place)
     }
 
     fn change(self, place: usize, digit: u8) -> Result<Single, Refusal> {
-        if place >= 32 {
-            return Err(Refusal::NumberOutOfRange);
-        }
-        let changed = self.wide().change(place, digit)?;
-        Ok(narrow(changed))
+        check_place(place, 32)?;
+        Ok(narrow(Planes::from(self).change(place, digit)?))
     }
 
     fn negation(self) -> Single {
-        stored(swapped(self.read()))
+        self.full().negation().stored()
     }
 
     fn sum(self, other: Single) -> Single {
-        stored(added(self.read(), other.read()))
+        self.full().sum(other.full()).stored()
     }
 
-    // The negated vector has its halves swapped.
     fn difference(self, other: Single) -> Single {
-        stored(added(self.read(), swapped(other.read())))
+        self.full().sum(other.full().negation()).stored()
     }
 
     // Where v has a 1 this is w, where v has a 2 it is w negated, and elsewhere all bits are set.
     fn product(self, other: Single) -> Single {
-        let v = self.read();
-        let w = other.read();
+        let v = self.full().word;
+        let w = other.full().word;
         let v1 = swapped(v);
-        stored((paired(v1, v1) | w) & (paired(v, v) | swapped(w)))
+        let product = FullWord {
+            word: (paired(v1, v1) | w) & (paired(v, v) | swapped(w)),
+        };
+        product.stored()
     }
 
     fn scaled(self, digit: u8) -> Result<Single, Refusal> {
-        let scaled = self.wide().scaled(digit)?;
-        Ok(narrow(scaled))
+        Ok(narrow(Planes::from(self).scaled(digit)?))
     }
 
     fn inverse(digit: u8) -> Result<u8, Refusal> {
-        Planes::inverse(digit)
+        digits::inverse(digit)
     }
 
     // Both from six word operations and three swaps.
     fn sum_and_difference(self, other: Single) -> (Single, Single) {
-        let v = self.read();
-        let w = other.read();
+        let v = self.full().word;
+        let w = other.full().word;
         let t = (v ^ swapped(v)) ^ w;
         let u = (w ^ swapped(w)) ^ v;
-        (stored(t | u), stored(swapped(t) | u))
+        let sum = FullWord { word: t | u };
+        let difference = FullWord {
+            word: swapped(t) | u,
+        };
+        (sum.stored(), difference.stored())
     }
 
     fn weight(self) -> usize {
-        self.wide().weight()
+        Planes::from(self).weight()
     }
 
     fn distance(self, other: Single) -> usize {
-        self.wide().distance(other.wide())
+        Planes::from(self).distance(Planes::from(other))
     }
 
     fn dot(self, other: Single) -> u8 {
-        self.wide().dot(other.wide())
+        Planes::from(self).dot(Planes::from(other))
     }
 
     fn lead(self) -> Option<Lead> {
-        self.wide().lead()
+        Planes::from(self).lead()
     }
 }
 
@@ -183,20 +211,16 @@ impl Ternary for Single {
 
     // The successor within n places has length n, so it fits.
     fn next(self, n: usize) -> Result<Option<Single>, Refusal> {
-        if n == 0 || n > 32 {
-            return Err(Refusal::LengthOutOfRange);
-        }
-        match self.wide().next(n) {
-            Ok(Some(next)) => Ok(Some(narrow(next))),
-            Ok(None) => Ok(None),
-            Err(refusal) => Err(refusal),
+        check_length(n, 32)?;
+        // `map(narrow)` says what `narrow` answered only under a name that no proof can write.
+        match Planes::from(self).next(n)? {
+            Some(next) => Ok(Some(narrow(next))),
+            None => Ok(None),
         }
     }
 
     fn full_product(self, n: usize) -> Result<u8, Refusal> {
-        if n == 0 || n > 32 {
-            return Err(Refusal::LengthOutOfRange);
-        }
-        self.wide().full_product(n)
+        check_length(n, 32)?;
+        Planes::from(self).full_product(n)
     }
 }

@@ -1,5 +1,5 @@
 -- The vectors of length 2 follow one another as listed: a step that raises the lower digit, and one that raises the upper.
-use Rattle.std.proofs.Common.{◌≡◌, ℕ, zero, suc, ◌*◌, ◌%◌, ◌<◌, [], ◌∷◌, get_or, sym, refl, ap, ◌∙◌, not-suc-le-zero, arith}
+use Rattle.std.proofs.Common.{◌≡◌, ℕ, zero, suc, ◌*◌, ◌%◌, ◌<◌, [], ◌∷◌, get_or, refl, ap, ◌∙◌, not-suc-le-zero, arith}
 use Rattle.algebra.specs.Field.{value, of}
 use Rattle.algebra.specs.Modulo.{f3}
 use Rattle.algebra.specs.Successor.{Next, Last, Walk}

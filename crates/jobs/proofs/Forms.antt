@@ -1,5 +1,5 @@
 -- The rows of a basis, written as a sheet: they are the normal form of the lines, and only room can be lacking.
-use Rattle.std.proofs.Common.{◌≡◌, ℕ, ◌*◌, ◌<◌, ◌≤◌, ◌⊎◌, List, [], ◌∷◌, map, reverse, length, take, Ok, Err, Result, sym, refl, ap, ◌∙◌, subst, ap₂, inr, mul-le-mul, arith, MatchResult}
+use Rattle.std.proofs.Common.{◌≡◌, ℕ, ◌*◌, ◌<◌, ◌≤◌, ◌⊎◌, List, [], ◌∷◌, map, reverse, length, take, Ok, Err, Result, sym, refl, ap, ◌∙◌, subst, subst₂, ap₂, inr, mul-le-mul, arith, MatchResult}
 use mathlib.Core.Path.{fun_ext}
 use native.Mathlib.Decide.{dec_lt}
 use Rattle.std.specs.List.{HoldsAt, AllByRecursion}
@@ -15,11 +15,13 @@ use Rattle.algebra.proofs.Digits.{of_value, of_nil}
 use Rattle.algebra.proofs.Leads.{rows_back}
 use Rattle.coding.specs.Refusals.{number_of}
 use Rattle.coding.specs.declared.refusals.Refusal.{Refusal}
-use Rattle.basis.specs.Form.{Rows}
-use Rattle.sheet.specs.declared.sheets.Opened.{Opened}
+use Rattle.basis.specs.Form.{Rows, meant_rows}
+use Rattle.sheet.specs.declared.opened.Opened.{Opened}
 use Rattle.sheet.specs.Faults.{FaultOf}
 use Rattle.sheet.specs.Format.{Name, Names, Sheet, line, written}
-use Rattle.sheet.specs.Opened.{NoSheet, OpenedFrom}
+use Rattle.sheet.specs.Opened.{NoSheet, OpenedFrom, rows_of}
+use Rattle.coding.specs.declared.vectors.Coding.{Ghosts as Coding}
+use Rattle.coding.proofs.Members.{coding}
 use Rattle.sheet.specs.Writes.{Heads, digits, text, Wrote, Refused, bad_names, length_out_of_range, text_too_long, too_little_room, beyond_length}
 use Rattle.sheet.proofs.Bodies.{length_text, whole_rows}
 use Rattle.sheet.proofs.Splits.{names_once}
@@ -46,29 +48,29 @@ same_names names others head a b =
     (names_once names others [] [] a.rule.each b.rule.each a.rule.some b.rule.some
     (append-nil (line names) ∙ sym a.text_is ∙ b.text_is ∙ sym (append-nil (line others)))).0
 
-module _ (F : Field) {X : Type 0} (meant : X → Vector F) (n : ℕ) where
+module _ {X : Type 0} (C : Coding X) (n : ℕ) where
   -- the digits of a vector of length n are read back as that vector
-  digits_back : (x : X) → Long F n (meant x) → digits_of F (digits F meant n x) ≡ meant x
+  digits_back : (x : X) → Long C.field n (C.meant x) → digits_of C.field (digits C n x) ≡ C.meant x
   digits_back x long = fun_ext λ k. elim (dec_lt k n) [
-    | yes l ↦ ap (of F) (get_or-map-range_with_len (λ k. value (meant x k)) 0 n k k 0 l (omega arith)) ∙ of_value F (meant x k)
+    | yes l ↦ ap (of C.field) (get_or-map-range_with_len (λ k. value (C.meant x k)) 0 n k k 0 l (omega arith)) ∙ of_value C.field (C.meant x k)
     | no l ↦
         let past : n ≤ k = omega arith in
-        ap (of F) (get_or_past (digits F meant n x) k 0 (omega (arith, length-map-range_with_len (λ k. value (meant x k)) 0 n))) ∙ of_nil F ∙ sym (long k past)
+        ap (of C.field) (get_or_past (digits C n x) k 0 (omega (arith, length-map-range_with_len (λ k. value (C.meant x k)) 0 n))) ∙ of_nil C.field ∙ sym (long k past)
   ]
 
-  rows_read : (w : ℕ) (xs : List X) → Within F n (rows_in F w meant xs) → rows_in F n (digits_of F) (map (digits F meant n) xs) ≡ map (row_in F n) (vectors F (rows_in F w meant xs))
-  rows_read w [] h = refl
-  rows_read w (x ∷ xs) (h, hs) = ap₂ (λ v rs. row_in F n v ∷ rs) (digits_back x h.1) (rows_read w xs hs)
+  rows_read : (xs : List X) → Within C.field n (meant_rows C xs) → rows_in C.field n (digits_of C.field) (map (digits C n) xs) ≡ map (row_in C.field n) (vectors C.field (meant_rows C xs))
+  rows_read [] h = refl
+  rows_read (x ∷ xs) (h, hs) = ap₂ (λ v rs. row_in C.field n v ∷ rs) (digits_back x h.1) (rows_read xs hs)
 
   -- stored rows in normal form, as digits, are in normal form
-  form_read : (w : ℕ) (xs : List X) (vs : List (Vector F)) → NormalForm F n (rows_in F w meant xs) vs → NormalForm F n (rows_in F n (digits_of F) (map (digits F meant n) xs)) vs
-  form_read w xs vs h =
-      subst (λ rs. NormalForm F n rs vs)
-      (sym (rows_read w xs h.within ∙ rows_back F n n (omega arith) (rows_in F w meant xs) h.normal h.within)) h
+  form_read : (xs : List X) (vs : List (Vector C.field)) → NormalForm C.field n (meant_rows C xs) vs → NormalForm C.field n (rows_in C.field n (digits_of C.field) (map (digits C n) xs)) vs
+  form_read xs vs h =
+      subst (λ rs. NormalForm C.field n rs vs)
+      (sym (rows_read xs h.within ∙ rows_back C.field n n (omega arith) (meant_rows C xs) h.normal h.within)) h
 
-  all_long_lem : (w : ℕ) (xs : List X) → Within F n (rows_in F w meant xs) → AllByRecursion (λ x. Long F n (meant x)) xs
-  all_long_lem w [] h = tt
-  all_long_lem w (x ∷ xs) (h, hs) = (h.1, all_long_lem w xs hs)
+  all_long_lem : (xs : List X) → Within C.field n (meant_rows C xs) → AllByRecursion (λ x. Long C.field n (C.meant x)) xs
+  all_long_lem [] h = tt
+  all_long_lem (x ∷ xs) (h, hs) = (h.1, all_long_lem xs hs)
 
 -- what holds of every element fails at none
 at_none : {X : Type 0} (P : X → Type 0) (xs : List X) (i : ℕ) → i < length xs → AllByRecursion P xs → HoldsAt (λ x. P x → ⊥) xs i → ⊥
@@ -78,7 +80,10 @@ at_none P (x ∷ xs) i within all fails = fails x (All-get_or P (x ∷ xs) i x w
 -- the sheet that was opened, and the rows whose first hold its lines in normal form and are written
 module _ {X : Type 0} (w : ℕ) (meant : X → Vector f3) (canonical : X → Type 0) (enough : 64 ≤ w)
     (source : List ℕ) (opened : Opened) (o : OpenedFrom source opened) (head : List ℕ) (head_is : head ≡ opened.head.now)
-    (rank : ℕ) (rows : List X) (form : Rows f3 w meant canonical (length o.names) rank rows (reverse (map (digits_of f3) o.rows))) where
+    (rank : ℕ) (rows : List X) (read : Rows (coding f3 w meant canonical) opened.names rank rows (reverse (map (digits_of f3) (rows_of opened)))) where
+  abbrev K : Coding X
+  K = coding f3 w meant canonical
+
   abbrev names : List (List ℕ)
   names = o.names
 
@@ -86,7 +91,10 @@ module _ {X : Type 0} (w : ℕ) (meant : X → Vector f3) (canonical : X → Typ
   xs = take rank rows
 
   abbrev forms : List (List ℕ)
-  forms = map (digits f3 meant (length names)) xs
+  forms = map (digits K (length names)) xs
+
+  form : Rows K (length names) rank rows (reverse (map (digits_of f3) o.rows))
+  form = subst₂ (λ n lines. Rows K n rank rows (reverse (map (digits_of f3) lines))) o.describes.names_are (sym o.read) read
 
   rule : Names names
   rule = o.describes.sheet.names_rule
@@ -102,31 +110,31 @@ module _ {X : Type 0} (w : ℕ) (meant : X → Vector f3) (canonical : X → Typ
 
   normal : NormalOf (length names) o.rows forms
   normal = record {
-    each = whole_rows f3 meant refl (length names) xs;
-    form = form_read f3 meant (length names) w xs (map (digits_of f3) o.rows) kept;
+    each = whole_rows K refl (length names) xs;
+    form = form_read K (length names) xs (map (digits_of f3) o.rows) kept;
   }
 
   -- at most 64 rows, of at most 64 digits, under at most 64 names
-  short : length (text f3 meant names xs) ≤ 65000
+  short : length (text K names xs) ≤ 65000
   short =
       let many : length xs ≡ rank = length-take-le rank rows form.form.room in
       let most : length names ≤ 64 = rule.most in
       let few : length xs ≤ 64 = omega (arith, form.ranked) in
       let wide : 2 * length names ≤ 128 = omega arith in
-      omega (arith, length_text f3 meant heads (length names) refl xs, ap length heads.text_is, short_line names rule.some rule.each, mul-le-mul few wide)
+      omega (arith, length_text K heads (length names) refl xs, ap length heads.text_is, short_line names rule.some rule.each, mul-le-mul few wide)
 
   module _ (old new : List ℕ) where
-    only_room : (number : ℕ) → Refused f3 meant w head xs (length old) number → (number ≡ 8) × (length old < length (written names forms))
+    only_room : (number : ℕ) → Refused K head xs (length old) number → (number ≡ 8) × (length old < length (written names forms))
     only_room number (bad_names e none) = absurd (none names heads)
     only_room number (length_out_of_range e others h over) = absurd (omega (arith, ap length (same_names others names _ h heads), rule.most))
-    only_room number (text_too_long e others h fit long) = absurd (omega (arith, ap (λ ns. length (text f3 meant ns xs)) (same_names others names _ h heads), short))
-    only_room number (too_little_room e others h fit few little) = (e, subst (λ ns. length old < length (text f3 meant ns xs)) (same_names others names _ h heads) little)
+    only_room number (text_too_long e others h fit long) = absurd (omega (arith, ap (λ ns. length (text K ns xs)) (same_names others names _ h heads), short))
+    only_room number (too_little_room e others h fit few little) = (e, subst (λ ns. length old < length (text K ns xs)) (same_names others names _ h heads) little)
     only_room number (beyond_length e others h fit few room i within fails) =
-        absurd (at_none (λ x. Long f3 (length names) (meant x)) xs i within (all_long_lem f3 meant (length names) w xs kept.within)
+        absurd (at_none (λ x. Long f3 (length names) (meant x)) xs i within (all_long_lem K (length names) xs kept.within)
         (subst (λ ns. HoldsAt (λ x. Long f3 (length ns) (meant x) → ⊥) xs i) (same_names others names _ h heads) fails))
 
     pub written_out : (r : Result ℕ Refusal)
-        → MatchResult r (λ m. Wrote f3 meant w head xs old new m) (λ e. (new ≡ old) × Refused f3 meant w head xs (length old) (number_of e))
+        → MatchResult r (λ m. Wrote K head xs old new m) (λ e. (new ≡ old) × Refused K head xs (length old) (number_of e))
         → MatchResult (placed (length source) r) (λ size. Normalized source old new size) (λ f. (new ≡ old) × ((FaultOf source f × NoSheet source) ⊎ NoRoom source old f))
     written_out (Ok size) h =
         let same = same_names h.names names _ h.head_is heads in record {
@@ -135,8 +143,8 @@ module _ {X : Type 0} (w : ℕ) (meant : X → Vector f3) (canonical : X → Typ
           forms = forms;
           sheet = same_sheet;
           normal = normal;
-          whole = subst (λ ns. size ≡ length (text f3 meant ns xs)) same h.whole;
-          output = subst (λ ns. Sheet ns (map (digits f3 meant (length ns)) xs) (take size new)) same h.sheet;
+          whole = subst (λ ns. size ≡ length (text K ns xs)) same h.whole;
+          output = subst (λ ns. Sheet ns (map (digits K (length ns)) xs) (take size new)) same h.sheet;
           rest = h.rest;
         }
     written_out (Err e) h =

@@ -1,8 +1,7 @@
 -- The permanent of a sheet's matrix modulo 3, and when a sheet has none that is given.
 use Rattle.std.specs.Prelude.{◌≡◌, ℕ, ◌%◌, ◌<◌, ◌≤◌, ◌≢◌, ◌⊎◌, List, [], length, slice_index, slice_index_or}
-use Rattle.algebra.specs.Field.{Field}
-use Rattle.algebra.specs.Vector.{Vector}
 use Rattle.algebra.specs.Permanent.{permanent}
+use Rattle.coding.specs.declared.vectors.Coding.{Ghosts as Coding}
 use Rattle.coding.specs.Refusals.{number_of}
 use Rattle.coding.specs.Walks.{meaning}
 use Rattle.sheet.specs.declared.faults.Fault.{Fault}
@@ -35,5 +34,5 @@ pub record NoPermanent (text : List ℕ) (f : Fault) : Type 0 where
   pub why : ((number_of f.refusal ≡ 5) × (length rows ≢ length names)) ⊎ ((number_of f.refusal ≡ 6) × (length rows ≡ length names) × (60 < length names))
 
 -- the first stored rows are the vectors of the first rows of digits
-abbrev pub LinesRead : (F : Field) {X : Type 0} → (X → Vector F) → List X → List (List ℕ) → ℕ → Type 0
-LinesRead F meant stored rows count = (k : ℕ) → k < count → VectorOf F (meaning F meant stored k) (slice_index_or rows k [])
+abbrev pub LinesRead : {X : Type 0} (C : Coding X) → List X → List (List ℕ) → ℕ → Type 0
+LinesRead C stored rows count = (k : ℕ) → k < count → VectorOf C.field (meaning C stored k) (slice_index_or rows k [])

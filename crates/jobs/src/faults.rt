@@ -9,8 +9,12 @@ use std::alloc::{AllocError, Global};
 pub fn fault_lines(heap: Global, fault: Fault) -> Result<String, AllocError>
     ensures { IfOk result (λ text. string_bytes text ≡ printed fault) }
 {
-    let layer = fault.layer.word();
-    let refusal = fault.refusal.number();
-    let place = fault.place;
+    // Printed by its parts, in the order of their names: of a `Display` for the whole the two lines would have to be put
+    // together again in the proof.
+    let Fault {
+        refusal,
+        layer,
+        place,
+    } = fault;
     format!(in heap; "layer refusal place\n{layer} {refusal} {place}\n")
 }

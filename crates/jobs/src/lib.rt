@@ -3,12 +3,10 @@
 
 mod faults;
 mod normals;
-mod outputs;
 mod permanents;
 mod sizes;
 
 pub use faults::fault_lines;
 pub use normals::normal;
-pub use outputs::first_bytes;
 pub use permanents::permanent;
-pub use sizes::Permanent;
+pub use sizes::{MOST_READ, MOST_WRITTEN, Permanent};

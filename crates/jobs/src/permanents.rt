@@ -1,24 +1,21 @@
 // The permanent of a sheet's matrix modulo 3: the value lines are the rows, and every share of a tally is worked.
-ghost use Rattle.std.specs.Prelude.{◌≡◌, ℕ, ◌%◌, ◌<◌, ◌≤◌, ◌⊎◌, List, map, length, MatchResult};
+ghost use Rattle.std.specs.Prelude.{◌≡◌, ◌%◌, ◌<◌, ◌≤◌, ◌⊎◌, map, length, MatchResult};
 ghost use Rattle.std.specs.List.{range_with_len};
 ghost use Rattle.algebra.specs.Permanent.{permanent};
-ghost use Rattle.coding.specs.Lengths.{InRange};
 ghost use Rattle.tally.specs.Matrix.{matrix};
-ghost use Rattle.tally.specs.Stands.{Makes};
+ghost use Rattle.tally.specs.Makings.{Makes};
 ghost use Rattle.tally.specs.declared.calls.Call.TheVariants.{Work};
 ghost use Rattle.sheet.specs.Faults.{FaultOf};
-ghost use Rattle.sheet.specs.Opened.{Describes, NoSheet};
+ghost use Rattle.sheet.specs.Opened.{NoSheet, rows_of};
 ghost use Rattle.jobs.specs.Permanents.{PermanentOf, NoPermanent, LinesRead};
 
 use crate::normals::at_end;
 use crate::sizes::Permanent;
 use coding::{Coding, Refusal, Ternary};
 use codings::Planes;
-use sheet::{Fault, Opened, open};
-use tally::{Call, Unwatched, result_after};
-
-// The most rows that a tally takes.
-const MOST_ROWS: usize = 60;
+use sheet::{Fault, Layer, Opened, open};
+use std::array::from_fn;
+use tally::{Call, MOST_ROWS, Unwatched, result_after};
 
 // The size of the sheet's matrix and its permanent modulo 3. A text that is no sheet gets the fault of `open`; a sheet
 // is refused only if it is not square, or else has more than 60 names.
@@ -31,10 +28,10 @@ pub fn permanent(text: &[u8]) -> Result<Permanent, Fault>
     let size = sheet.names();
     let lines = sheet.lines();
     if lines != size {
-        return at_end(Err(Refusal::NotSquare), text.len());
+        return Err(Layer::Job.fault(Refusal::NotSquare, text.len()));
     }
     if size > MOST_ROWS {
-        return at_end(Err(Refusal::LengthOutOfRange), text.len());
+        return Err(Layer::Job.fault(Refusal::LengthOutOfRange, text.len()));
     }
     // The row after the matrix is the tally's.
     let mut rows = [Planes::zero(); 61];
@@ -47,12 +44,12 @@ pub fn permanent(text: &[u8]) -> Result<Permanent, Fault>
 // name.
 fn read_lines<C: Ternary>(sheet: &Opened, rows: &mut [C]) -> Result<(), Fault>
     requires { sheet.now.lines ≤ length rows.old }
-    ensures { (names lines : List (List ℕ)) → Describes sheet.now names lines
-        → length names ≤ C.Coding.width
+    ensures { sheet.now.names ≤ C.Coding.width
         → MatchResult result
-        (λ _. LinesRead C.Coding.field C.Coding.meant rows.new lines (length lines))
+        (λ _. LinesRead C.Coding rows.new (rows_of sheet.now) sheet.now.lines)
         (λ _. ⊥) }
 {
+    // By index: of what `iter_mut().enumerate()` hands out to be written, nothing is known afterwards.
     for number in 0..sheet.lines() {
         rows[number] = sheet.line(number)?;
     }
@@ -63,26 +60,22 @@ fn read_lines<C: Ternary>(sheet: &Opened, rows: &mut [C]) -> Result<(), Fault>
 fn all_shares() -> [Call; 64]
     ensures { result ≡ map Work (range_with_len 0 64) }
 {
-    let mut calls = [Call::Result; 64];
-    for share in 0..64 {
-        calls[share] = Call::Work(share as u8);
-    }
-    calls
+    from_fn(|share| Call::Work(share as u8))
 }
 
 // As many splits as a tally of this size can have.
 fn most_splits(size: usize) -> usize
     ensures { (result ≤ 6) × (result ≤ size) }
 {
-    if size < 6 { size } else { 6 }
+    size.min(6)
 }
 
 // The permanent, modulo 3, of the matrix in the first rows. A small matrix has fewer shares than there are calls; the
 // others are refused.
 fn work_all<C: Ternary>(rows: &mut [C], size: usize) -> Result<u8, Refusal>
-    ensures { Makes C.Coding.field C.Coding.width C.Coding.meant size 0 rows.old
+    ensures { Makes C.Coding size 0 rows.old
         → MatchResult result
-        (λ d. d ≡ permanent (matrix C.Coding.field C.Coding.meant rows.old) size % 3)
+        (λ d. d ≡ permanent (matrix C.Coding rows.old) size % 3)
         (λ _. ⊥) }
 {
     let calls = all_shares();

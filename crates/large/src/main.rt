@@ -9,10 +9,7 @@ use tally::Tally;
 fn main(rt: HostRuntime) -> io::Result<()> {
     match permanent() {
         Ok(digit) => println!(rt; "size 26: permanent {digit}"),
-        Err(refusal) => {
-            let number = refusal.number();
-            println!(rt; "size 26: refused by {number}")
-        }
+        Err(refusal) => println!(rt; "size 26: refused by {refusal}"),
     }
 }
 

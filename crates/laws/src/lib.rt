@@ -10,7 +10,7 @@ use coding::{Coding, Ternary};
 // and cosets agree; a result is the permanent, and comes exactly when no share is missing.
 pub fn together<C: Ternary, D: Ternary>() -> usize
     ensures count { result ≡ 3 }
-    ensures laws { Together C.Coding.field D.Coding.field C.Coding.width D.Coding.width C.Coding.meant D.Coding.meant C.Coding.canonical D.Coding.canonical }
+    ensures laws { Together C.Coding D.Coding }
 {
     3
 }

@@ -1,5 +1,6 @@
 // What is written of sheets, and printed of texts that are refused.
-use crate::job::{fault_lines, first, normal};
+use coding::first_of;
+use jobs::{fault_lines, normal};
 use std::alloc::Global;
 use std::process::Abort;
 use std::test::Fail;
@@ -8,11 +9,12 @@ const NAMES_64: &str = "a b c d e f g h i j k l m n o p q r s t u v w x y z \
 a1 b1 c1 d1 e1 f1 g1 h1 i1 j1 k1 l1 m1 n1 o1 p1 q1 r1 s1 t1 u1 v1 w1 x1 y1 z1 \
 a2 b2 c2 d2 e2 f2 g2 h2 i2 j2 k2 l2\n";
 
+// The two programs answer with different things, so each has these checks for its own job.
 fn check_answer(rt: &impl Abort, text: &[u8], expected: &str) -> Result<(), Fail> {
     let mut output = [b'?'; 300];
     match normal(text, &mut output) {
         Ok(length) => {
-            assert_eq!(rt; first(&output, length), expected.as_bytes());
+            assert_eq!(rt; first_of(&output, length), expected.as_bytes());
             Ok(())
         },
         Err(_) => Err(Fail::new("refused")),
@@ -148,7 +150,7 @@ fn needs_room_for_its_rows_alone(rt: HostRuntime) -> Result<(), Fail> {
     let mut enough = [b'?'; 8];
     match normal(text, &mut enough) {
         Ok(length) => {
-            assert_eq!(rt; first(&enough, length), b"a b\n1 2\n".as_slice());
+            assert_eq!(rt; first_of(&enough, length), b"a b\n1 2\n".as_slice());
             Ok(())
         },
         Err(_) => Err(Fail::new("refused")),

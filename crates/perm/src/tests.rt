@@ -8,6 +8,7 @@ const NAMES_60: &str = "a b c d e f g h i j k l m n o p q r s t u v w x y z \
 a1 b1 c1 d1 e1 f1 g1 h1 i1 j1 k1 l1 m1 n1 o1 p1 q1 r1 s1 t1 u1 v1 w1 x1 y1 z1 \
 a2 b2 c2 d2 e2 f2 g2 h2";
 
+// The two programs answer with different things, so each has these checks for its own job.
 fn check_answer(rt: &impl Abort, text: &[u8], size: usize, digit: u8) -> Result<(), Fail> {
     match permanent(text) {
         Ok(answer) => {

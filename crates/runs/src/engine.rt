@@ -7,11 +7,8 @@ pub fn print<C: Ternary>(rt: &HostRuntime, rows: &mut [C]) -> io::Result<()> {
     for n in 1..8usize {
         let mut counts = [0; 65];
         match walk_weights(n, rows, &mut counts) {
-            Ok(_) => weights(rt, n, &counts)?,
-            Err(refusal) => {
-                let number = refusal.number();
-                println!(rt; "weights within {n}: refused by {number}")?;
-            }
+            Ok(_) => weights(rt, n, &counts[..=n])?,
+            Err(refusal) => println!(rt; "weights within {n}: refused by {refusal}")?,
         }
     }
     Ok(())
@@ -19,7 +16,7 @@ pub fn print<C: Ternary>(rt: &HostRuntime, rows: &mut [C]) -> io::Result<()> {
 
 fn weights(rt: &HostRuntime, n: usize, counts: &[usize]) -> io::Result<()> {
     print!(rt; "weights within {n}:")?;
-    for count in counts.iter().take(n.saturating_add(1)) {
+    for count in counts {
         print!(rt; " {count}")?;
     }
     println!(rt; "")

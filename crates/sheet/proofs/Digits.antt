@@ -1,8 +1,8 @@
 -- Value lines: their digits, and in how many ways they can be cut out of a text.
-use Rattle.std.proofs.Common.{◌≡◌, ℕ, ◌+◌, ◌-◌, ◌*◌, ◌<◌, ◌≤◌, List, [], ◌∷◌, ◌++◌, map, length, get_or, drop, sym, refl, ap, ◌∙◌, subst, append_assoc, arith, length-append}
+use Rattle.std.proofs.Common.{◌≡◌, ℕ, ◌+◌, ◌-◌, ◌*◌, ◌<◌, ◌≤◌, List, [], ◌∷◌, ◌++◌, map, length, min, get_or, take, drop, sym, refl, ap, ◌∙◌, subst, append_assoc, arith, length-append}
 use Rattle.std.specs.List.{AllByRecursion}
 use Rattle.std.proofs.ByRecursion.{All-push, All-drop}
-use Rattle.std.proofs.lemmas.List.{append-nil, drop_at, map_push, length_push}
+use Rattle.std.proofs.lemmas.List.{append-nil, drop_at, map_push, length_push, nil_from_length, take_at}
 use Rattle.sheet.specs.Format.{Row, line, lines, values}
 use Rattle.sheet.specs.Reading.{spaced, Begins, Lined}
 use Rattle.sheet.proofs.Splits.{line_push, spaced_push}
@@ -114,22 +114,11 @@ values_length [] l = absurd (omega arith)
 values_length (d ∷ []) l = refl
 values_length (d ∷ (e ∷ row)) l = let h = values_length (e ∷ row) (omega arith) in omega arith
 
--- where the next value line starts
-pub next_line : (n : ℕ) (rest : List ℕ) → 0 < n → (b : Begins n rest) → (2 * n + length b.1 ≡ length rest) × (drop (2 * n) rest ≡ b.1)
-next_line n rest l (row, after, r, e) =
-    let w = r.whole in
-    let k : length (values row) ≡ 2 * n = values_length row (omega arith) ∙ ap (λ i. 2 * i) w in
-    let m = ap length e ∙ length-append (values row) after in
-    (omega arith, ap (drop (2 * n)) e ∙ drop_at (values row) after (2 * n) k)
-
-lines_push : (ls : List (List ℕ)) (l : List ℕ) → lines (ls ++ l ∷ []) ≡ lines ls ++ l
+pub lines_push : (ls : List (List ℕ)) (l : List ℕ) → lines (ls ++ l ∷ []) ≡ lines ls ++ l
 lines_push [] l = append-nil l
 lines_push (k ∷ ls) l = ap (λ t. k ++ t) (lines_push ls l) ∙ sym (append_assoc k (lines ls) l)
 
-pub lined_none : (n : ℕ) (text : List ℕ) → Lined n text 0 text
-lined_none n text = record { rows = []; rule = tt; many = refl; text_is = refl }
-
-pub lined_more : (n : ℕ) (text : List ℕ) (count : ℕ) (rest : List ℕ) → Lined n text count rest → (b : Begins n rest) → Lined n text (count + 1) b.1
+lined_more : (n : ℕ) (text : List ℕ) (count : ℕ) (rest : List ℕ) → Lined n text count rest → (b : Begins n rest) → Lined n text (count + 1) b.1
 lined_more n text count rest s (row, after, r, e) = record {
   rows = s.rows ++ row ∷ [];
   rule = All-push (Row n) s.rows row s.rule r;
@@ -140,6 +129,34 @@ lined_more n text count rest s (row, after, r, e) = record {
       ∙ sym (append_assoc (lines (map values s.rows)) (values row) after)
       ∙ ap (λ t. t ++ after) (sym (ap lines (map_push values s.rows row) ∙ lines_push (map values s.rows) (values row)));
 }
+
+-- a chunk of a text, as long as a value line of n digits, or all that is left
+module _ (n : ℕ) (some : 0 < n) (all chunk rest : List ℕ) (parts : all ≡ chunk ++ rest) (size : length chunk ≡ min (2 * n) (length all)) where
+  row_length : (row : List ℕ) → Row n row → length (values row) ≡ 2 * n
+  row_length row r = let w = r.whole in omega (arith, values_length row (omega arith))
+
+  -- where a value line begins the text, it begins the chunk
+  pub begins_chunk : Begins n all → Begins n chunk
+  begins_chunk (row, after, r, e) =
+      let long = row_length row r in
+      let whole : length chunk ≡ 2 * n = omega (arith, ap length e ∙ length-append (values row) after) in (
+        row,
+        [],
+        r,
+        sym (ap (take (2 * n)) parts ∙ take_at chunk rest (2 * n) whole) ∙ ap (take (2 * n)) e ∙ take_at (values row) after (2 * n) long ∙ sym (append-nil (values row)),
+      )
+
+  -- a chunk that a value line begins is that value line
+  chunk_is : (b : Begins n chunk) → chunk ≡ values b.0
+  chunk_is (row, after, r, e) =
+      let none : after ≡ [] = nil_from_length after (omega (arith, row_length row r, ap length e ∙ length-append (values row) after)) in
+      e ∙ ap (λ t. values row ++ t) none ∙ append-nil (values row)
+
+  pub chunk_length : Begins n chunk → length chunk ≡ 2 * n
+  chunk_length b = ap length (chunk_is b) ∙ row_length b.0 b.2
+
+  pub lined_chunk : (text : List ℕ) (count : ℕ) → Lined n text count all → Begins n chunk → Lined n text (count + 1) rest
+  lined_chunk text count s b = lined_more n text count all s (b.0, rest, b.2, parts ∙ ap (λ t. t ++ rest) (chunk_is b))
 
 values_once : (row other r s : List ℕ) → length row ≡ length other → values row ++ r ≡ values other ++ s → (row ≡ other) × (r ≡ s)
 values_once [] [] r s l e = (refl, cc)

@@ -1,10 +1,12 @@
 -- The names of a names line under way.
-use Rattle.std.proofs.Common.{◌≡◌, ℕ, ◌+◌, ◌<◌, ◌≤◌, Bool, true, false, List, [], ◌∷◌, ◌++◌, length, get_or, drop, sym, refl, ap, ◌∙◌, subst, inl, inr, append_assoc, arith}
+use Rattle.std.proofs.Common.{◌≡◌, ℕ, ◌+◌, ◌<◌, ◌≤◌, List, [], ◌∷◌, ◌++◌, length, get_or, drop, sym, refl, ap, ◌∙◌, subst, inl, inr, append_assoc, arith}
 use Rattle.std.specs.List.{AllByRecursion}
 use Rattle.std.proofs.ByRecursion.{All-push, All-drop, All-get_or}
 use Rattle.std.proofs.lemmas.List.{drop_at, drop_more, get_or_at, get_or_append_left, length-append, length_push}
 use Rattle.std.proofs.lemmas.Bool.{cases_lt}
 use Rattle.sheet.specs.declared.sheets.Named.{Named}
+use Rattle.sheet.specs.declared.tokens.Break.{Break}
+use Rattle.sheet.specs.declared.tokens.Break.TheVariants.{Blank, LineEnd}
 use Rattle.sheet.specs.Format.{Name, Names, line}
 use Rattle.sheet.specs.Reading.{NameAt, NoName, Headed, ending, spaced}
 use Rattle.sheet.proofs.Splits.{cut_once, ending_stops, last_name, more_names, others_left, line_push, spaced_push}
@@ -26,9 +28,6 @@ pub record Walked (text : List ℕ) (count next : ℕ) : Type 0 where
 abbrev pub NoNames : List ℕ → Type 0
 NoNames text = (names : List (List ℕ)) (rest : List ℕ) → Names names → text ≡ line names ++ rest → ⊥
 
-pub walked_none : (text : List ℕ) → Walked text 0 0
-walked_none text = record { names = []; many = refl; each = tt; different = λ i j h k e. absurd (omega arith); text_is = refl; place = refl }
-
 -- the names that any names line has after those walked
 walked_others : (text : List ℕ) (count next : ℕ) (s : Walked text count next) (names : List (List ℕ)) (rest : List ℕ) → Names names → text ≡ line names ++ rest
     → (others : List (List ℕ)) × (names ≡ s.names ++ others) × (0 < length others) × (drop next text ≡ line others ++ rest) × AllByRecursion Name others
@@ -39,11 +38,11 @@ walked_others text count next s names rest n e =
 
 -- a line of names begins with a name and its ending
 name_due : (names : List (List ℕ)) (rest tail : List ℕ) → AllByRecursion Name names → 0 < length names → tail ≡ line names ++ rest
-    → (w : List ℕ) × (after : List ℕ) × (last : Bool) × Name w × (tail ≡ w ++ ending last ∷ after)
+    → (w : List ℕ) × (after : List ℕ) × (end : Break) × Name w × (tail ≡ w ++ ending end ∷ after)
 name_due [] rest tail h l e = absurd (omega arith)
-name_due (w ∷ []) rest tail h l e = (w, rest, true, h.0, e ∙ append_assoc w (10 ∷ []) rest)
+name_due (w ∷ []) rest tail h l e = (w, rest, LineEnd, h.0, e ∙ append_assoc w (10 ∷ []) rest)
 name_due (w ∷ (v ∷ names)) rest tail h l e =
-    (w, line (v ∷ names) ++ rest, false, h.0, e ∙ append_assoc w (32 ∷ line (v ∷ names)) rest)
+    (w, line (v ∷ names) ++ rest, Blank, h.0, e ∙ append_assoc w (32 ∷ line (v ∷ names)) rest)
 
 pub none_without_name : (text : List ℕ) (count next : ℕ) → Walked text count next → NoName text next → NoNames text
 none_without_name text count next s never names rest n e =
@@ -51,10 +50,10 @@ none_without_name text count next s never names rest n e =
     let d = name_due q.0 rest (drop next text) q.4 q.2 q.3 in
     never d.0 d.1 d.2 d.3 d.4
 
-first_is : (w after : List ℕ) (last : Bool) (names : List (List ℕ)) (rest : List ℕ) → Name w → AllByRecursion Name names → 0 < length names
-    → w ++ ending last ∷ after ≡ line names ++ rest → (others : List (List ℕ)) × (names ≡ w ∷ others)
-first_is w after true names rest n h l e = ([], (last_name w after names rest n.bytes h l e).0)
-first_is w after false names rest n h l e = let q = more_names w after names rest n.bytes h l e in (q.0, q.1)
+first_is : (w after : List ℕ) (end : Break) (names : List (List ℕ)) (rest : List ℕ) → Name w → AllByRecursion Name names → 0 < length names
+    → w ++ ending end ∷ after ≡ line names ++ rest → (others : List (List ℕ)) × (names ≡ w ∷ others)
+first_is w after LineEnd names rest n h l e = ([], (last_name w after names rest n.bytes h l e).0)
+first_is w after Blank names rest n h l e = let q = more_names w after names rest n.bytes h l e in (q.0, q.1)
 
 pub none_with_repeat : (text : List ℕ) (count next : ℕ) (s : Walked text count next) (found : Named) → NameAt text next found
     → (k : ℕ) × (k < count) × (get_or s.names k [] ≡ found.word.now) → NoNames text
@@ -62,7 +61,7 @@ none_with_repeat text count next s found a (k, l, same) names rest n e =
     let w = found.word.now in
     let m = s.many in
     let q = walked_others text count next s names rest n e in
-    let f = first_is w (drop found.end.next text) found.end.last q.0 rest a.name q.4 q.2 (sym a.there ∙ q.3) in
+    let f = first_is w (drop found.next text) found.end q.0 rest a.name q.4 q.2 (sym a.there ∙ q.3) in
     let t : names ≡ s.names ++ w ∷ f.0 = q.1 ∙ ap (λ x. s.names ++ x) f.1 in
     let b = ap length t ∙ length-append s.names (w ∷ f.0) in
     let at_k = ap (λ x. get_or x k []) t ∙ get_or_append_left s.names (w ∷ f.0) [] k (omega arith) in
@@ -99,27 +98,27 @@ module _ (text : List ℕ) (count next : ℕ) (s : Walked text count next) (foun
 
   -- the names with the one found, as far as its ending
   pushed : List ℕ
-  pushed = spaced s.names ++ (found.word.now ++ ending found.end.last ∷ [])
+  pushed = spaced s.names ++ (found.word.now ++ ending found.end ∷ [])
 
-  pushed_text : text ≡ pushed ++ drop found.end.next text
+  pushed_text : text ≡ pushed ++ drop found.next text
   unfolding pushed
   pushed_text =
-      let rest = drop found.end.next text in
-      let last = ending found.end.last ∷ [] in
+      let rest = drop found.next text in
+      let last = ending found.end ∷ [] in
       s.text_is
       ∙ ap (λ t. spaced s.names ++ t) (a.there ∙ sym (append_assoc found.word.now last rest))
       ∙ sym (append_assoc (spaced s.names) (found.word.now ++ last) rest)
 
-  pushed_place : found.end.next ≡ length pushed
+  pushed_place : found.next ≡ length pushed
   unfolding pushed
   pushed_place =
-      let last = ending found.end.last ∷ [] in
+      let last = ending found.end ∷ [] in
       let p = s.place in
       let b = length-append (spaced s.names) (found.word.now ++ last) in
       let d = length-append found.word.now last in
       omega (arith, a.next)
 
-  pub walked_more : found.end.last ≡ false → Walked text (count + 1) found.end.next
+  pub walked_more : found.end ≡ Blank → Walked text (count + 1) found.next
   unfolding pushed
   walked_more f =
       let w = found.word.now in
@@ -130,11 +129,11 @@ module _ (text : List ℕ) (count next : ℕ) (s : Walked text count next) (foun
         many = omega (arith, s.many);
         each = All-push Name s.names w s.each a.name;
         different = pushed_different;
-        text_is = pushed_text ∙ ap (λ t. t ++ drop found.end.next text) e;
+        text_is = pushed_text ∙ ap (λ t. t ++ drop found.next text) e;
         place = pushed_place ∙ ap length e;
       }
 
-  pub headed : count < 64 → found.end.last ≡ true → Headed text (record { names = count + 1; end = found.end.next })
+  pub headed : count < 64 → found.end ≡ LineEnd → Headed text (record { names = count + 1; end = found.next })
   unfolding pushed
   headed l f =
       let w = found.word.now in
@@ -146,7 +145,7 @@ module _ (text : List ℕ) (count next : ℕ) (s : Walked text count next) (foun
         rule = record { some = omega arith; most = omega arith; each = All-push Name s.names w s.each a.name; different = pushed_different };
         count = omega arith;
         end = pushed_place ∙ ap length e;
-        text_is = pushed_text ∙ ap (λ t. t ++ drop found.end.next text) e;
+        text_is = pushed_text ∙ ap (λ t. t ++ drop found.next text) e;
       }
 
 -- the name at a number, and what follows it
@@ -157,9 +156,9 @@ module _ (names : List (List ℕ)) (i : ℕ) (rest tail : List ℕ) (l : i < len
       ∙ ap (λ t. spaced t ++ rest) (drop_more names i [] l)
       ∙ append_assoc (get_or names i []) (32 ∷ spaced (drop (i + 1) names)) rest
 
-  pub name_matches : (w after : List ℕ) (last : Bool) → AllByRecursion Name names → Name w → tail ≡ w ++ ending last ∷ after
+  pub name_matches : (w after : List ℕ) (end : Break) → AllByRecursion Name names → Name w → tail ≡ w ++ ending end ∷ after
       → (w ≡ get_or names i []) × (after ≡ spaced (drop (i + 1) names) ++ rest)
-  name_matches w after last h n f =
-      let q = cut_once w (get_or names i []) (ending last ∷ after) (32 ∷ (spaced (drop (i + 1) names) ++ rest)) n.bytes (All-get_or Name names i [] l h).bytes (ending_stops last) (ending_stops false) (sym f ∙ name_again) in
+  name_matches w after end h n f =
+      let q = cut_once w (get_or names i []) (ending end ∷ after) (32 ∷ (spaced (drop (i + 1) names) ++ rest)) n.bytes (All-get_or Name names i [] l h).bytes (ending_stops end) (ending_stops Blank) (sym f ∙ name_again) in
       let t = q.1 in
       (q.0, cc)

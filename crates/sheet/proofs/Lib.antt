@@ -3,7 +3,6 @@ pub mod Headings
 pub mod Digits
 pub mod Wholes
 pub mod Back
-pub mod Puts
 pub mod Values
 pub mod Bodies
 pub mod Places

@@ -1,19 +1,20 @@
 -- Words and lines can be cut out of a text in one way only.
-use Rattle.std.proofs.Common.{◌≡◌, ℕ, ◌+◌, ◌-◌, ◌<◌, ◌≤◌, Bool, true, false, List, [], ◌∷◌, ◌++◌, length, get_or, take, drop, sym, refl, ap, ◌∙◌, subst, inl, inr, append_assoc, arith}
+use Rattle.std.proofs.Common.{◌≡◌, ℕ, ◌+◌, ◌-◌, ◌<◌, ◌≤◌, List, [], ◌∷◌, ◌++◌, length, get_or, take, drop, sym, refl, ap, ◌∙◌, subst, inl, inr, append_assoc, arith}
 use Rattle.std.specs.List.{AllByRecursion}
 use Rattle.std.proofs.ByRecursion.{All-from_get_or}
-use Rattle.std.proofs.lemmas.List.{length-append, length-drop, length-take, get_or-drop, get_or-take, drop-drop, drop_at, drop_all, drop_more, take-append-drop}
+use Rattle.std.proofs.lemmas.List.{length-drop, length-take, get_or-drop, get_or-take, drop-drop, drop_at, drop_all, drop_more, take-append-drop}
 use Rattle.std.proofs.lemmas.Bool.{cases_lt}
+use Rattle.sheet.specs.declared.tokens.Break.{Break}
+use Rattle.sheet.specs.declared.tokens.Break.TheVariants.{Blank, LineEnd}
 use Rattle.sheet.specs.Format.{Name, line}
-use Rattle.sheet.specs.Faults.{Known}
-use Rattle.sheet.specs.Reading.{WordByte, Stops, WordAt, NoWord, NoBreak, ending, spaced}
+use Rattle.sheet.specs.Reading.{WordByte, Stops, WordAt, NoBreak, ending, spaced}
 
 -- what ends a word is no byte of one
-pub ending_stops : (last : Bool) → WordByte (ending last) → ⊥
-ending_stops true (inl l) = omega arith
-ending_stops true (inr l) = omega arith
-ending_stops false (inl l) = omega arith
-ending_stops false (inr l) = omega arith
+pub ending_stops : (end : Break) → WordByte (ending end) → ⊥
+ending_stops LineEnd (inl l) = omega arith
+ending_stops LineEnd (inr l) = omega arith
+ending_stops Blank (inl l) = omega arith
+ending_stops Blank (inr l) = omega arith
 
 -- a text is a longest word and a rest in one way
 pub cut_once : (v w r s : List ℕ) → AllByRecursion WordByte v → AllByRecursion WordByte w → Stops r → Stops s → v ++ r ≡ w ++ s → (v ≡ w) × (r ≡ s)
@@ -26,43 +27,13 @@ cut_once (x ∷ v) (y ∷ w) r s hv hw hr hs e =
     let p = q.0 in
     (cc, q.1)
 
--- what stands at a place begins what is left there
-pub first_byte : (text : List ℕ) (place b : ℕ) (r : List ℕ) → drop place text ≡ b ∷ r → (place < length text) × (get_or text place 0 ≡ b)
-first_byte text place b r e =
-    let l = length-drop place text in
-    let k = ap length e in
-    let g = get_or-drop place text 0 0 in
-    let h : get_or (drop place text) 0 0 ≡ b = ap (λ (t : List ℕ). get_or t 0 0) e in
-    (omega arith, sym (subst (λ n. get_or (drop place text) 0 0 ≡ get_or text n 0) (omega arith) g) ∙ h)
-
-pub ending_known : (last : Bool) → Known (ending last)
-ending_known true = inr (inr refl)
-ending_known false = inr (inl refl)
-
--- a blank or a line end starts no word
-pub ending_no_word : (text : List ℕ) (place : ℕ) (last : Bool) → get_or text place 0 ≡ ending last → NoWord text place
-ending_no_word text place last h b rest w e =
-    ending_stops last (subst WordByte (sym (first_byte text place b rest e).1 ∙ h) w)
-
--- what a blank or a line end leaves
-pub ending_there : (text : List ℕ) (place : ℕ) (last : Bool) → place < length text → get_or text place 0 ≡ ending last
-    → drop place text ≡ ending last ∷ drop (place + 1) text
-ending_there text place last l h = drop_more text place 0 l ∙ ap (λ b. b ∷ drop (place + 1) text) h
-
 -- a word is no blank and no line end
 pub word_no_break : (text : List ℕ) (place : ℕ) (w : List ℕ) → WordAt text place w → NoBreak text place
-word_no_break text place [] a last rest e = absurd (omega (arith, a.some))
-word_no_break text place (b ∷ w) a last rest e =
+word_no_break text place [] a end rest e = absurd (omega (arith, a.some))
+word_no_break text place (b ∷ w) a end rest e =
     let t = sym a.there ∙ e in
-    let h : b ≡ ending last = cc in
-    ending_stops last (subst WordByte h a.bytes.0)
-
--- a word lies within its text
-pub word_within : (text : List ℕ) (place : ℕ) (w : List ℕ) → WordAt text place w → place + length w ≤ length text
-word_within text place w a =
-    let l = length-drop place text in
-    let k = ap length a.there ∙ length-append w a.rest in
-    omega (arith, a.some)
+    let h : b ≡ ending end = cc in
+    ending_stops end (subst WordByte h a.bytes.0)
 
 stops_at : (text : List ℕ) (place : ℕ) → (place < length text → WordByte (get_or text place 0) → ⊥) → Stops (drop place text)
 stops_at text place h =
@@ -94,28 +65,23 @@ rest_after text place w r e =
     sym (drop-drop (length w) place text) ∙ ap (drop (length w)) e ∙ drop_at w r (length w) refl
 
 -- a word with its ending is the longest word
-pub whole_word : (text : List ℕ) (place : ℕ) (v w rest : List ℕ) (last : Bool) → WordAt text place v → Name w → drop place text ≡ w ++ ending last ∷ rest
-    → (w ≡ v) × (drop (place + length v) text ≡ ending last ∷ rest)
-whole_word text place v w rest last a n e =
-    let q = cut_once w v (ending last ∷ rest) a.rest n.bytes a.bytes (ending_stops last) a.stops (sym e ∙ a.there) in
+pub whole_word : (text : List ℕ) (place : ℕ) (v w rest : List ℕ) (end : Break) → WordAt text place v → Name w → drop place text ≡ w ++ ending end ∷ rest
+    → (w ≡ v) × (drop (place + length v) text ≡ ending end ∷ rest)
+whole_word text place v w rest end a n e =
+    let q = cut_once w v (ending end ∷ rest) a.rest n.bytes a.bytes (ending_stops end) a.stops (sym e ∙ a.there) in
     (q.0, rest_after text place v a.rest a.there ∙ sym q.1)
-
--- a name is not empty
-pub name_starts : (w rest : List ℕ) → Name w → (b : ℕ) × (more : List ℕ) × WordByte b × (w ++ rest ≡ b ∷ more)
-name_starts [] rest n = absurd (omega (arith, n.some))
-name_starts (b ∷ w) rest n = (b, w ++ rest, n.bytes.0, refl)
 
 -- the line of a first word that is the last
 pub last_name : (w after : List ℕ) (names : List (List ℕ)) (rest : List ℕ) → AllByRecursion WordByte w → AllByRecursion Name names → 0 < length names
     → w ++ 10 ∷ after ≡ line names ++ rest → (names ≡ w ∷ []) × (after ≡ rest)
 last_name w after [] rest hw hn l e = absurd (omega arith)
 last_name w after (v ∷ []) rest hw hn l e =
-    let q = cut_once w v (10 ∷ after) (10 ∷ rest) hw hn.0.bytes (ending_stops true) (ending_stops true) (e ∙ append_assoc v (10 ∷ []) rest) in
+    let q = cut_once w v (10 ∷ after) (10 ∷ rest) hw hn.0.bytes (ending_stops LineEnd) (ending_stops LineEnd) (e ∙ append_assoc v (10 ∷ []) rest) in
     let p = q.0 in
     let t = q.1 in
     (cc, cc)
 last_name w after (v ∷ (u ∷ names)) rest hw hn l e =
-    let q = cut_once w v (10 ∷ after) (32 ∷ (line (u ∷ names) ++ rest)) hw hn.0.bytes (ending_stops true) (ending_stops false) (e ∙ append_assoc v (32 ∷ line (u ∷ names)) rest) in
+    let q = cut_once w v (10 ∷ after) (32 ∷ (line (u ∷ names) ++ rest)) hw hn.0.bytes (ending_stops LineEnd) (ending_stops Blank) (e ∙ append_assoc v (32 ∷ line (u ∷ names)) rest) in
     let t = q.1 in
     let z : ◌≡◌ {A = ℕ} 10 32 = cc in
     absurd (omega arith)
@@ -126,12 +92,12 @@ pub more_names : (w after : List ℕ) (names : List (List ℕ)) (rest : List ℕ
     → (others : List (List ℕ)) × (names ≡ w ∷ others) × (0 < length others) × (after ≡ line others ++ rest)
 more_names w after [] rest hw hn l e = absurd (omega arith)
 more_names w after (v ∷ []) rest hw hn l e =
-    let q = cut_once w v (32 ∷ after) (10 ∷ rest) hw hn.0.bytes (ending_stops false) (ending_stops true) (e ∙ append_assoc v (10 ∷ []) rest) in
+    let q = cut_once w v (32 ∷ after) (10 ∷ rest) hw hn.0.bytes (ending_stops Blank) (ending_stops LineEnd) (e ∙ append_assoc v (10 ∷ []) rest) in
     let t = q.1 in
     let z : ◌≡◌ {A = ℕ} 10 32 = cc in
     absurd (omega arith)
 more_names w after (v ∷ (u ∷ names)) rest hw hn l e =
-    let q = cut_once w v (32 ∷ after) (32 ∷ (line (u ∷ names) ++ rest)) hw hn.0.bytes (ending_stops false) (ending_stops false) (e ∙ append_assoc v (32 ∷ line (u ∷ names)) rest) in
+    let q = cut_once w v (32 ∷ after) (32 ∷ (line (u ∷ names) ++ rest)) hw hn.0.bytes (ending_stops Blank) (ending_stops Blank) (e ∙ append_assoc v (32 ∷ line (u ∷ names)) rest) in
     let p = q.0 in
     let t = q.1 in
     (u ∷ names, cc, omega arith, cc)

@@ -2,7 +2,6 @@
 use Rattle.std.proofs.Common.{◌≡◌, ℕ, ◌+◌, ◌<◌, ◌≤◌, List, [], ◌∷◌, ◌++◌, map, length, take, drop, sym, refl, ap, ◌∙◌, subst, inl, inr, append_assoc, arith}
 use Rattle.std.specs.List.{AllByRecursion}
 use Rattle.std.proofs.ByRecursion.{All-append, All-get_or, All-weaker}
-use Rattle.std.proofs.lemmas.List.Prefix.{front_fits}
 use Rattle.std.proofs.lemmas.List.{append-nil, length-append, take_at}
 use Rattle.sheet.specs.declared.faults.Fault.{Fault}
 use Rattle.sheet.specs.declared.sheets.Head.{Head}
@@ -58,11 +57,6 @@ no_rows (row ∷ rows) e =
     absurd (omega arith)
 
 module _ (text : List ℕ) (head : Head) (h : Headed text head) where
-  pub headed_fits : (0 < head.names) × (head.end ≤ length text)
-  headed_fits =
-      let e = front_fits text (line h.names) (drop head.end text) h.text_is in
-      (omega (arith, h.count, h.rule.some), omega (arith, h.end))
-
   -- a sheet has the names of its names line, and its value lines are what is left
   after_names : (names rows : List (List ℕ)) → Sheet names rows text → (names ≡ h.names) × (lines (map values rows) ≡ drop head.end text)
   after_names names rows s =

@@ -1,6 +1,6 @@
 -- The text format of sheets, as a relation between names, rows and text: each byte is accounted for.
-use Rattle.std.specs.Prelude.{◌≡◌, ℕ, ◌+◌, ◌<◌, ◌≤◌, ◌⊎◌, List, [], ◌∷◌, ◌++◌, map, length, slice_index, slice_index_or}
-use Rattle.std.specs.List.{AllByRecursion}
+use Rattle.std.specs.Prelude.{◌≡◌, ℕ, ◌+◌, ◌-◌, ◌*◌, ◌<◌, ◌≤◌, ◌⊎◌, List, [], ◌∷◌, ◌++◌, map, length, drop, slice_index, slice_index_or}
+use Rattle.std.specs.List.{range_with_len, AllByRecursion}
 
 abbrev pub Letter : ℕ → Type 0
 Letter b = (97 ≤ b) × (b ≤ 122)
@@ -52,3 +52,22 @@ pub record Sheet (names rows : List (List ℕ)) (text : List ℕ) : Type 0 where
   pub rows_rule : AllByRecursion (Row (length names)) rows
   pub text_is : text ≡ written names rows
   pub short : length text ≤ 65000
+
+-- a text, the names line that begins it, and how many names and value lines it has
+pub record Parts (text head : List ℕ) (count number : ℕ) (names rows : List (List ℕ)) : Type 0 where
+  pub sheet : Sheet names rows text
+  pub head_is : head ≡ line names
+  pub names_are : count ≡ length names
+  pub rows_are : number ≡ length rows
+
+-- they are those of a sheet
+abbrev pub IsSheet : List ℕ → List ℕ → ℕ → ℕ → Type 0
+IsSheet text head count number = (names : List (List ℕ)) × (rows : List (List ℕ)) × Parts text head count number names rows
+
+-- the digits of n names where a value line begins the text: each has two bytes
+abbrev pub row_read : ℕ → List ℕ → List ℕ
+row_read n text = map (λ k. slice_index text (2 * k) - 48) (range_with_len 0 n)
+
+-- the digits of so many value lines, where they begin the text
+abbrev pub rows_read : ℕ → ℕ → List ℕ → List (List ℕ)
+rows_read n number text = map (λ i. row_read n (drop (i * (2 * n)) text)) (range_with_len 0 number)

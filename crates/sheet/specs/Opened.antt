@@ -1,20 +1,21 @@
 -- What an opened sheet says of its text, and how its lines are read as vectors.
-use Rattle.std.specs.Prelude.{◌≡◌, ℕ, ◌<◌, ◌≤◌, ◌⊎◌, List, length, Result, MatchResult, slice_index}
+use Rattle.std.specs.Prelude.{◌≡◌, ℕ, ◌<◌, ◌≤◌, ◌⊎◌, List, drop, length, Result, MatchResult, slice_index}
 use Rattle.algebra.specs.Field.{Field, of}
 use Rattle.algebra.specs.Vector.{Vector}
 use Rattle.coding.specs.Refusals.{number_of}
 use Rattle.sheet.specs.declared.faults.Fault.{Fault}
 use Rattle.sheet.specs.declared.faults.Layer.TheVariants.{Job}
-use Rattle.sheet.specs.declared.sheets.Opened.{Opened}
+use Rattle.sheet.specs.declared.opened.Opened.{Opened}
 use Rattle.sheet.specs.Faults.{FaultOf}
-use Rattle.sheet.specs.Format.{Sheet, line}
+use Rattle.sheet.specs.Format.{Parts, Sheet, rows_read}
 
 -- the opened sheet is that of these names and rows
-pub record Describes (opened : Opened) (names rows : List (List ℕ)) : Type 0 where
-  pub sheet : Sheet names rows opened.text.now
-  pub head_is : opened.head.now ≡ line names
-  pub names_are : opened.names ≡ length names
-  pub rows_are : opened.lines ≡ length rows
+abbrev pub Describes : Opened → List (List ℕ) → List (List ℕ) → Type 0
+Describes opened names rows = Parts opened.text.now opened.head.now opened.names opened.lines names rows
+
+-- the rows of an opened sheet: the digits of its value lines, as they stand in the text
+abbrev pub rows_of : Opened → List (List ℕ)
+rows_of opened = rows_read opened.names opened.lines (drop (length opened.head.now) opened.text.now)
 
 -- a text is the sheet of at most these names and rows
 abbrev pub Only : List ℕ → List (List ℕ) → List (List ℕ) → Type 0
@@ -31,6 +32,7 @@ pub record OpenedFrom (text : List ℕ) (opened : Opened) : Type 0 where
   pub names : List (List ℕ)
   pub rows : List (List ℕ)
   pub describes : Describes opened names rows
+  pub read : rows ≡ rows_of opened
   pub only : Only text names rows
 
 -- what `open` answers on a text: the sheet that it is, or the one fault of a text that is none
@@ -46,13 +48,18 @@ pub record VectorOf (F : Field) (v : Vector F) (row : List ℕ) : Type 0 where
   pub digits : (k : ℕ) → k < length row → v k ≡ of F (slice_index row k)
   pub nils : (k : ℕ) → length row ≤ k → v k ≡ F.nil
 
--- a line can be read into so many places
-pub record Readable (width number : ℕ) (names rows : List (List ℕ)) : Type 0 where
-  pub wide : length names ≤ width
-  pub there : number < length rows
+-- a line of an opened sheet can be read into so many places
+pub record Readable (width number : ℕ) (opened : Opened) : Type 0 where
+  pub wide : opened.names ≤ width
+  pub there : number < opened.lines
 
--- 6: more names than places; 9: no line of that number
-pub record LineFault (width number : ℕ) (names rows : List (List ℕ)) (text : List ℕ) (f : Fault) : Type 0 where
+-- why a line is not read. 6: more names than places; 9: no line of that number
+abbrev pub Unreadable : ℕ → ℕ → Opened → ℕ → Type 0
+Unreadable width number opened refusal =
+    ((refusal ≡ 6) × (width < opened.names)) ⊎ ((refusal ≡ 9) × (opened.names ≤ width) × (opened.lines ≤ number))
+
+-- the fault of a line that is not read
+pub record LineFault (width number : ℕ) (opened : Opened) (f : Fault) : Type 0 where
   pub layer : f.layer ≡ Job
-  pub place : f.place ≡ length text
-  pub why : ((number_of f.refusal ≡ 6) × (width < length names)) ⊎ ((number_of f.refusal ≡ 9) × (length names ≤ width) × (length rows ≤ number))
+  pub place : f.place ≡ length opened.text.now
+  pub why : Unreadable width number opened (number_of f.refusal)

@@ -1,5 +1,5 @@
 -- What the reader's parts find, each as a relation between a text and a place in it.
-use Rattle.std.specs.Prelude.{◌≡◌, ℕ, ◌+◌, ◌<◌, Bool, cond, ◌⊎◌, List, [], ◌∷◌, ◌++◌, map, length, drop, ◌≢◌, slice_index, slice_index_or}
+use Rattle.std.specs.Prelude.{◌≡◌, ℕ, ◌+◌, ◌<◌, ◌⊎◌, List, [], ◌∷◌, ◌++◌, map, length, drop, ◌≢◌, slice_index}
 use Rattle.std.specs.List.{AllByRecursion}
 use Rattle.coding.specs.Refusals.{number_of}
 use Rattle.sheet.specs.declared.faults.Fault.{Fault}
@@ -7,6 +7,7 @@ use Rattle.sheet.specs.declared.faults.Layer.TheVariants.{Sheet}
 use Rattle.sheet.specs.declared.texts.Kind.{Kind}
 use Rattle.sheet.specs.declared.texts.Kind.TheVariants as kind
 use Rattle.sheet.specs.declared.tokens.Break.{Break}
+use Rattle.sheet.specs.declared.tokens.Break.TheVariants.{Blank, LineEnd}
 use Rattle.sheet.specs.declared.tokens.Token.{Token}
 use Rattle.sheet.specs.declared.tokens.Token.TheVariants as token
 use Rattle.sheet.specs.declared.sheets.Named.{Named}
@@ -43,9 +44,10 @@ IsToken text place (token.Word w) = WordAt text place w.now
 IsToken text place token.Blank = slice_index text place ≡ 32
 IsToken text place token.LineEnd = slice_index text place ≡ 10
 
--- the byte after a word: the last of a line, or another
-abbrev pub ending : Bool → ℕ
-ending last = cond last 10 32
+-- the byte that ends a word
+abbrev pub ending : Break → ℕ
+ending Blank = 32
+ending LineEnd = 10
 
 -- words with a blank after each
 abbrev pub spaced : List (List ℕ) → List ℕ
@@ -57,22 +59,21 @@ abbrev pub NoWord : List ℕ → ℕ → Type 0
 NoWord text place = (b : ℕ) (rest : List ℕ) → WordByte b → drop place text ≢ b ∷ rest
 
 -- a blank or a line end stands at a place
-pub record BreakAt (text : List ℕ) (place : ℕ) (found : Break) : Type 0 where
-  pub there : drop place text ≡ ending found.last ∷ drop found.next text
-  pub next : found.next ≡ place + 1
+abbrev pub BreakAt : List ℕ → ℕ → Break → Type 0
+BreakAt text place found = drop place text ≡ ending found ∷ drop (place + 1) text
 
 abbrev pub NoBreak : List ℕ → ℕ → Type 0
-NoBreak text place = (last : Bool) (rest : List ℕ) → drop place text ≢ ending last ∷ rest
+NoBreak text place = (end : Break) (rest : List ℕ) → drop place text ≢ ending end ∷ rest
 
 -- a name and what ends it start at a place
 pub record NameAt (text : List ℕ) (place : ℕ) (found : Named) : Type 0 where
   pub name : Name found.word.now
-  pub there : drop place text ≡ found.word.now ++ ending found.end.last ∷ drop found.end.next text
-  pub next : found.end.next ≡ place + length found.word.now + 1
+  pub there : drop place text ≡ found.word.now ++ ending found.end ∷ drop found.next text
+  pub next : found.next ≡ place + length found.word.now + 1
 
 -- no name with its ending starts at a place
 abbrev pub NoName : List ℕ → ℕ → Type 0
-NoName text place = (w rest : List ℕ) (last : Bool) → Name w → drop place text ≢ w ++ ending last ∷ rest
+NoName text place = (w rest : List ℕ) (end : Break) → Name w → drop place text ≢ w ++ ending end ∷ rest
 
 -- a names line begins the text
 pub record Headed (text : List ℕ) (head : Head) : Type 0 where
@@ -103,9 +104,3 @@ pub record LinesFault (n : ℕ) (text : List ℕ) (head : ℕ) (f : Fault) : Typ
   pub more : 0 < length rest
   pub none : Begins n rest → ⊥
   pub place : f.place + length rest ≡ length text
-
--- a digit 0, 1 or 2 stands at a place
-pub record DigitAt (text : List ℕ) (place digit : ℕ) : Type 0 where
-  pub small : digit < 3
-  pub within : place < length text
-  pub there : slice_index_or text place 0 ≡ 48 + digit

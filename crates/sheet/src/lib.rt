@@ -2,11 +2,14 @@
 #![tactic(auto)]
 
 mod faults;
+mod opened;
 mod sheets;
 mod texts;
 mod tokens;
 mod writes;
 
 pub use faults::{Fault, Layer};
-pub use sheets::{Opened, open};
+pub use opened::Opened;
+pub use sheets::open;
+pub use texts::LONGEST;
 pub use writes::write;

@@ -1,5 +1,5 @@
 // The text layer: how long a text may be, and which bytes it may hold.
-ghost use Rattle.std.specs.Prelude.{◌≡◌, ◌≤◌, length, MatchResult};
+ghost use Rattle.std.specs.Prelude.{◌≤◌, length, MatchResult};
 ghost use Rattle.std.specs.List.{AllByRecursion};
 ghost use Rattle.sheet.specs.Faults.{Known, TextFault};
 ghost use Rattle.sheet.specs.Reading.{IsKind};
@@ -7,8 +7,8 @@ ghost use Rattle.sheet.specs.Reading.{IsKind};
 use crate::faults::{Fault, Layer};
 use coding::Refusal;
 
-// The most bytes that a text may have.
-const LONGEST: usize = 65_000;
+// The most bytes that a text may have, read or written.
+pub const LONGEST: usize = 65_000;
 
 // What a byte is in a text.
 #[derive(Clone, Copy)]
@@ -20,15 +20,17 @@ pub enum Kind {
     Foreign,
 }
 
-pub fn kind_of(byte: u8) -> Kind
-    ensures { IsKind result byte }
-{
-    match byte {
-        b'a'..=b'z' => Kind::Letter,
-        b'0'..=b'9' => Kind::Digit,
-        b' ' => Kind::Blank,
-        b'\n' => Kind::LineEnd,
-        _ => Kind::Foreign,
+impl From<u8> for Kind {
+    ghost from_gives = { λ byte kind. IsKind kind byte };
+
+    fn from(byte: u8) -> Kind {
+        match byte {
+            b'a'..=b'z' => Kind::Letter,
+            b'0'..=b'9' => Kind::Digit,
+            b' ' => Kind::Blank,
+            b'\n' => Kind::LineEnd,
+            _ => Kind::Foreign,
+        }
     }
 }
 
@@ -39,22 +41,12 @@ pub fn judge(text: &[u8]) -> Result<(), Fault>
         (λ f. TextFault text.now f) }
 {
     if text.len() > LONGEST {
-        return Err(fault(Refusal::TextTooLong, LONGEST));
+        return Err(Layer::Text.fault(Refusal::TextTooLong, LONGEST));
     }
     for (place, byte) in text.iter().enumerate() {
-        if let Kind::Foreign = kind_of(*byte) {
-            return Err(fault(Refusal::ForeignByte, place));
+        if let Kind::Foreign = Kind::from(*byte) {
+            return Err(Layer::Text.fault(Refusal::ForeignByte, place));
         }
     }
     Ok(())
-}
-
-fn fault(refusal: Refusal, place: usize) -> Fault
-    ensures { result ≡ record { refusal = refusal; layer = Layer.Text; place = place } }
-{
-    Fault {
-        refusal,
-        layer: Layer::Text,
-        place,
-    }
 }

@@ -1,9 +1,10 @@
-// Cuts a text into words, blanks and line ends.
+// Cuts a text into words, blanks and line ends. A token is told with its place, so these functions take the text and a
+// place.
 ghost use Rattle.std.specs.Prelude.{◌≡◌, ℕ, ◌<◌, ◌≤◌, length, MatchOption, slice_index};
 ghost use Rattle.sheet.specs.Faults.{Known};
 ghost use Rattle.sheet.specs.Reading.{WordByte, IsToken, WordAt, NoWord, BreakAt, NoBreak};
 
-use crate::texts::{Kind, kind_of};
+use crate::texts::Kind;
 
 // A word is a longest run of letters and digits, and borrows its part of the text.
 #[derive(Clone, Copy)]
@@ -20,11 +21,11 @@ pub struct Placed<'a> {
     pub place: usize,
 }
 
-// What follows a word: whether its line ends there, and the place of the next word.
+// What ends a word: a blank, or the line end after the last word of a line.
 #[derive(Clone, Copy)]
-pub struct Break {
-    pub last: bool,
-    pub next: usize,
+pub enum Break {
+    Blank,
+    LineEnd,
 }
 
 // The token that starts at a place; absent at the end of the text and at a foreign byte.
@@ -33,10 +34,7 @@ pub fn token_at<'a>(text: &'a [u8], place: usize) -> Option<Placed<'a>>
         (place < length text.now → Known (slice_index text.now place) → ⊥)
         (λ p. (p.place ≡ place) × (place < length text.now) × IsToken text.now place p.token) }
 {
-    if place >= text.len() {
-        return None;
-    }
-    let token = match kind_of(text[place]) {
+    let token = match Kind::from(*text.get(place)?) {
         Kind::Letter | Kind::Digit => Token::Word(&text[place..word_end(text, place)]),
         Kind::Blank => Token::Blank,
         Kind::LineEnd => Token::LineEnd,
@@ -61,15 +59,11 @@ pub fn break_at(text: &[u8], start: usize) -> Option<Break>
     ensures { MatchOption result (NoBreak text.now start) (λ b. BreakAt text.now start b) }
 {
     let found = token_at(text, start)?;
-    let last = match found.token {
-        Token::Blank => false,
-        Token::LineEnd => true,
-        Token::Word(_) => return None,
-    };
-    Some(Break {
-        last,
-        next: found.place + 1,
-    })
+    match found.token {
+        Token::Blank => Some(Break::Blank),
+        Token::LineEnd => Some(Break::LineEnd),
+        Token::Word(_) => None,
+    }
 }
 
 // Where the word that starts at a place ends.
@@ -79,10 +73,10 @@ fn word_end(text: &[u8], start: usize) -> usize
     ensures word { (k : ℕ) → start ≤ k → k < result → WordByte (slice_index text.now k) }
     ensures ends { result < length text.now → WordByte (slice_index text.now result) → ⊥ }
 {
-    for place in start + 1..text.len() {
-        match kind_of(text[place]) {
+    for (length, byte) in text[start..].iter().enumerate() {
+        match Kind::from(*byte) {
             Kind::Letter | Kind::Digit => {}
-            Kind::Blank | Kind::LineEnd | Kind::Foreign => return place,
+            Kind::Blank | Kind::LineEnd | Kind::Foreign => return start + length,
         }
     }
     text.len()

@@ -1,17 +1,12 @@
 // The writer: a names line and rows, put into the caller's bytes as a sheet.
-ghost use Rattle.std.specs.Prelude.{◌≡◌, ℕ, ◌+◌, ◌*◌, ◌<◌, ◌≤◌, length, Decides, MatchBool, MatchOption, MatchResult};
-ghost use Rattle.std.specs.List.{HoldsAt, AllByRecursion};
-ghost use Rattle.algebra.specs.Field.{value};
-ghost use Rattle.algebra.specs.Vector.{Long};
+ghost use Rattle.std.specs.Prelude.{◌≡◌, ◌+◌, ◌*◌, ◌<◌, ◌≤◌, length, MatchOption, MatchResult};
 ghost use Rattle.coding.specs.Refusals.{number_of};
 ghost use Rattle.sheet.specs.Format.{values};
-ghost use Rattle.sheet.specs.Writes.{put, digits, Wrote, Refused};
+ghost use Rattle.sheet.specs.Writes.{digits, Wrote, Refused};
 
 use crate::sheets::count_names;
-use coding::{Coding, Refusal, Ternary};
-
-// The most bytes that a sheet may have.
-const LONGEST: usize = 65_000;
+use crate::texts::LONGEST;
+use coding::{Refusal, Ternary, all_long, check_length, check_room, digit_at};
 
 // How many bytes a sheet has; absent where they are too many. The product may be too large for a usize.
 fn sheet_size(head: usize, rows: usize, names: usize) -> Option<usize>
@@ -20,56 +15,21 @@ fn sheet_size(head: usize, rows: usize, names: usize) -> Option<usize>
 {
     let values = rows.checked_mul(2 * names)?;
     let size = head.checked_add(values)?;
-    if size > LONGEST { None } else { Some(size) }
+    (size <= LONGEST).then_some(size)
 }
 
-// The digit at a place: 0 from the width on, as every vector has there.
-fn digit_at<C: Coding>(row: C, place: usize) -> u8
-    ensures { result ≡ value (C.Coding.meant row place) }
-{
-    match row.digit(place) {
-        Ok(digit) => digit,
-        Err(_) => 0,
-    }
-}
-
-// Whether every digit of a row from n on is 0.
-fn is_long<C: Coding>(row: C, n: usize) -> bool
-    ensures { Decides result (Long C.Coding.field n (C.Coding.meant row)) }
-{
-    for k in n..C::width() {
-        if digit_at(row, k) != 0 {
-            return false;
-        }
-    }
-    true
-}
-
-// Whether that holds of all rows.
-fn all_long<C: Coding>(rows: &[C], n: usize) -> bool
-    ensures { MatchBool result
-        (AllByRecursion (λ row. Long C.Coding.field n (C.Coding.meant row)) rows.now)
-        ((i : ℕ) × (i < length rows.now) × HoldsAt (λ row. Long C.Coding.field n (C.Coding.meant row) → ⊥) rows.now i) }
-{
-    for row in rows {
-        if !is_long(*row, n) {
-            return false;
-        }
-    }
-    true
-}
-
-// Writes the value line of a row from a place on: each digit with a blank after it, and a line feed over the last blank.
-fn write_row<C: Ternary>(row: C, names: usize, place: usize, output: &mut [u8])
+// Writes the value line of a row: each digit with a blank after it, and a line feed over the last blank.
+fn write_row<C: Ternary>(row: C, names: usize, output: &mut [u8])
     requires some { 0 < names }
-    requires room { place + 2 * names ≤ length output.old }
-    ensures { output.new ≡ put place (values (digits C.Coding.field C.Coding.meant names row)) output.old }
+    requires room { length output.old ≡ 2 * names }
+    ensures { output.new ≡ values (digits C.Coding names row) }
 {
+    // By index: of what an iterator over chunks hands out to be written, nothing is known afterwards.
     for k in 0..names {
-        output[place + 2 * k] = b'0' + digit_at(row, k);
-        output[place + 2 * k + 1] = b' ';
+        output[2 * k] = b'0' + digit_at(row, k);
+        output[2 * k + 1] = b' ';
     }
-    output[place + 2 * names - 1] = b'\n';
+    output[2 * names - 1] = b'\n';
 }
 
 // Puts a names line, given with its line feed, and rows into the output as a sheet and gives its length; later bytes
@@ -77,30 +37,22 @@ fn write_row<C: Ternary>(row: C, names: usize, place: usize, output: &mut [u8])
 // refused write leaves the output as it was.
 pub fn write<C: Ternary>(head: &[u8], rows: &[C], output: &mut [u8]) -> Result<usize, Refusal>
     ensures { MatchResult result
-        (λ m. Wrote C.Coding.field C.Coding.meant C.Coding.width head.now rows.now output.old output.new m)
+        (λ m. Wrote C.Coding head.now rows.now output.old output.new m)
         (λ e. (output.new ≡ output.old)
-        × Refused C.Coding.field C.Coding.meant C.Coding.width head.now rows.now (length output.old) (number_of e)) }
+        × Refused C.Coding head.now rows.now (length output.old) (number_of e)) }
 {
-    let Some(names) = count_names(head) else {
-        return Err(Refusal::BadNames);
-    };
-    if names > C::width() {
-        return Err(Refusal::LengthOutOfRange);
-    }
-    let Some(size) = sheet_size(head.len(), rows.len(), names) else {
-        return Err(Refusal::TextTooLong);
-    };
-    if output.len() < size {
-        return Err(Refusal::TooLittleRoom);
-    }
+    let names = count_names(head).ok_or(Refusal::BadNames)?;
+    check_length(names, C::width())?;
+    let size = sheet_size(head.len(), rows.len(), names).ok_or(Refusal::TextTooLong)?;
+    check_room(size, output.len())?;
     if !all_long(rows, names) {
         return Err(Refusal::BeyondLength);
     }
     output[..head.len()].copy_from_slice(head);
-    let mut place = head.len();
-    for row in rows {
-        write_row(*row, names, place, output);
-        place += 2 * names;
+    // Each part is cut by its number for the same reason.
+    for (number, row) in rows.iter().enumerate() {
+        let start = head.len() + number * (2 * names);
+        write_row(*row, names, &mut output[start..start + 2 * names]);
     }
     Ok(size)
 }

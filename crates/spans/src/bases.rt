@@ -1,29 +1,16 @@
 // The lengths that a basis is made with, and its dual at no rank and at full rank.
 use basis::Basis;
-use coding::{Coding, Refusal};
+use coding::{Coding, Outcome, Refusal};
 use std::io;
-
-// What a call at a bound gave.
-fn told<T: Drop>(
-    rt: &HostRuntime,
-    call: &str,
-    at: usize,
-    res: Result<T, Refusal>,
-) -> io::Result<()> {
-    match res {
-        Ok(_) => println!(rt; "{call} {at}: passes"),
-        Err(refusal) => {
-            let number = refusal.number();
-            println!(rt; "{call} {at}: refused by {number}")
-        }
-    }
-}
 
 // A basis has at most as many places as its coding.
 pub fn print<C: Coding>(rt: &HostRuntime, rows: &mut [C], dual: &mut [C]) -> io::Result<()> {
     let width = C::width();
     for n in [0, width, width + 1] {
-        told(rt, "basis of length", n, Basis::make(rows, n).made())?;
+        println!(rt;
+            "basis of length {n}: {}",
+            Outcome::passes(Basis::make(rows, n).made())
+        )?;
     }
     let mut basis = Basis::make(rows, width);
     duals(rt, sizes(&basis, dual))?;
@@ -46,9 +33,6 @@ fn full<C: Coding>(basis: &mut Basis<'_, C>, dual: &mut [C]) -> Result<(usize, u
 fn duals(rt: &HostRuntime, found: Result<(usize, usize), Refusal>) -> io::Result<()> {
     match found {
         Ok((rank, count)) => println!(rt; "basis of rank {rank}: dual of {count} rows"),
-        Err(refusal) => {
-            let number = refusal.number();
-            println!(rt; "basis: refused by {number}")
-        }
+        Err(refusal) => println!(rt; "basis: refused by {refusal}"),
     }
 }

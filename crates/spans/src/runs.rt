@@ -31,14 +31,8 @@ fn word(equal: bool) -> &'static str {
 fn rows_line(rt: &HostRuntime, first: &str, second: &str) -> io::Result<()> {
     print!(rt; "planes 110 011, signs {first} {second}: ")?;
     match rows_agree(first, second) {
-        Ok(equal) => {
-            let rows = word(equal);
-            println!(rt; "rows {rows}")
-        }
-        Err(refusal) => {
-            let number = refusal.number();
-            println!(rt; "refused by {number}")
-        }
+        Ok(equal) => println!(rt; "rows {}", word(equal)),
+        Err(refusal) => println!(rt; "refused by {refusal}"),
     }
 }
 
@@ -86,10 +80,7 @@ fn coset_line(rt: &HostRuntime, other: &str) -> io::Result<()> {
             let remainders = word(found.remainders);
             println!(rt; "check digits {first} and {second} {digits}, remainders {remainders}")
         }
-        Err(refusal) => {
-            let number = refusal.number();
-            println!(rt; "refused by {number}")
-        }
+        Err(refusal) => println!(rt; "refused by {refusal}"),
     }
 }
 

@@ -1,79 +1,115 @@
--- A table with one entry changed holds the shares booked then.
-use Rattle.std.proofs.Common.{◌≡◌, ℕ, zero, suc, ◌+◌, ◌*◌, ◌%◌, ◌^◌, ◌<◌, ◌≤◌, Bool, true, false, cond, ltb, List, [], ◌∷◌, length, get_or, set, sym, refl, ap, ◌∙◌, ap₂, arith, lt-ltb, eq-eqb, ne_eqb}
-use native.Mathlib.Decide.{ℕ_discrete}
-use Rattle.std.proofs.lemmas.List.{get_or-set_same, get_or-set_other}
-use Rattle.std.specs.List.{range_with_len}
-use Rattle.algebra.specs.Space.{Each}
-use Rattle.algebra.specs.Permanent.{arrangements, permanent}
-use Rattle.algebra.specs.Gray.{term}
-use Rattle.algebra.proofs.Over.{over_each}
+-- What a table tells of its shares, and which rows the sums over a matrix look at.
+use Rattle.std.proofs.Common.{◌≡◌, ℕ, zero, suc, ◌+◌, ◌*◌, ◌%◌, ◌^◌, ◌<◌, ◌≤◌, Bool, true, false, List, [], ◌∷◌, map, length, get_or, replicate, take, Option, Some, None, Result, sym, refl, ap, ◌∙◌, subst, ap₂, arith, MatchResult}
+use Rattle.std.proofs.lemmas.List.{get_or-replicate, get_or_past, get_or-take, length-replicate, length-take-le, take-map}
+use native.Mathlib.Decide.{dec_lt}
+use Rattle.std.proofs.lemmas.Result.{MatchResult-weaker}
+use Rattle.std.specs.List.{range_with_len, HoldsAt, AllWithin}
+use Rattle.algebra.specs.Field.{value}
+use Rattle.algebra.specs.Vector.{zeros}
+use Rattle.coding.specs.Refusals.{number_of}
+use Rattle.coding.specs.declared.refusals.Refusal.{Refusal}
+use Rattle.coding.specs.declared.vectors.Coding.{Ghosts as Coding}
+use Rattle.algebra.specs.Permanent.{over, arrangements, permanent, sum_over, product_over}
+use Rattle.algebra.specs.Gray.{term, share, sign, bit, gray_code}
+use mathlib.Core.Path.{fun_ext}
 use Rattle.algebra.proofs.Shares.{shares}
 use Rattle.algebra.proofs.Formula.{formula}
-use Rattle.tally.specs.declared.tables.Entry.{Entry}
-use Rattle.tally.specs.declared.tables.Entry.TheVariants.{Empty, Booked}
-use Rattle.tally.specs.Booking.{entry_of, digit_of, is_booked, booked, struck, total_of, AllBooked, Missing}
-use Rattle.tally.specs.Matrix.{share_digit}
+use Rattle.tally.specs.Booking.{digit_of, is_booked, total_of, AllBooked, Missing}
+use Rattle.tally.specs.Matrix.{matrix, share_digit}
+use Rattle.tally.specs.Stands.{Stands}
+use Rattle.tally.specs.declared.tallies.Tally.{Tally}
 
--- what the table holds of each share
-abbrev pub Holds : List Entry → (ℕ → Bool) → (ℕ → ℕ) → Type 0
-Holds entries b digit = (k : ℕ) → k < 64 → get_or entries k Empty ≡ entry_of (b k) (digit k)
+-- what is joined over a count looks at its numbers alone
+over_count : {Y : Type 0} (op : Y → Y → Y) (last : Y) {f g : ℕ → Y} (n : ℕ) → ((k : ℕ) → k < n → f k ≡ g k)
+    → over op last f (range_with_len 0 n) ≡ over op last g (range_with_len 0 n)
+over_count op last {f} {g} n same = from 0 n (λ k _ l. same k (omega arith))
+  where
+    from : (a m : ℕ) → ((k : ℕ) → a ≤ k → k < a + m → f k ≡ g k) → over op last f (range_with_len a m) ≡ over op last g (range_with_len a m)
+    from a zero h = refl
+    from a (suc m) h = ap₂ op (h a (omega arith) (omega arith)) (from (a + 1) m (λ k low high. h k (omega arith) (omega arith)))
 
-module _ (entries : List Entry) (b : ℕ → Bool) (digit : ℕ → ℕ) (share : ℕ) (inside : share < length entries) (h : Holds entries b digit) where
-  pub booked_holds : (s d : ℕ) → share < 2 ^ s → d ≡ digit share → Holds (set entries share (Booked d)) (booked s b share) digit
-  booked_holds s d l e k m = elim (ℕ_discrete k share) [
-    | yes q ↦ ap (λ j. get_or (set entries share (Booked d)) j Empty) q ∙ get_or-set_same entries share (Booked d) Empty inside ∙ ap Booked (e ∙ ap digit (sym q))
-        ∙ ap (λ c. entry_of c (digit k)) (sym (ap₂ (λ x y. cond x (cond y true (b k)) (b k)) (eq-eqb k share q) (lt-ltb share (2 ^ s) l)))
-    | no q ↦ get_or-set_other entries share k (Booked d) Empty q ∙ h k m ∙ ap (λ c. entry_of c (digit k)) (sym (ap (λ x. cond x (cond (ltb share (2 ^ s)) true (b k)) (b k)) (ne_eqb k share q)))
-  ]
+-- a table with no entry holds nothing
+pub nothing : (n k : ℕ) → ◌≡◌ {A = Option ℕ} (get_or (replicate n None) k None) None
+nothing n k = elim (dec_lt k n) [
+  | yes l ↦ get_or-replicate n k None None l
+  | no m ↦ get_or_past (replicate n None) k None (omega (arith, length-replicate {A = Option ℕ} n None, m))
+]
 
-  pub struck_holds : Holds (set entries share Empty) (struck b share) digit
-  struck_holds k m = elim (ℕ_discrete k share) [
-    | yes q ↦ ap (λ j. get_or (set entries share Empty) j Empty) q ∙ get_or-set_same entries share Empty Empty inside ∙ ap (λ c. entry_of c (digit k)) (sym (ap (λ x. cond x false (b k)) (eq-eqb k share q)))
-    | no q ↦ get_or-set_other entries share k Empty Empty q ∙ h k m ∙ ap (λ c. entry_of c (digit k)) (sym (ap (λ x. cond x false (b k)) (ne_eqb k share q)))
-  ]
+-- the digit of a booked entry
+digit_held : (o : Option ℕ) (x : ℕ) → is_booked o ≡ true → ((d : ℕ) → o ≡ Some d → d ≡ x) → digit_of o ≡ x
+digit_held None x h held = cc
+digit_held (Some d) x h held = held d refl
 
--- no share beyond the last is booked
-pub booked_inside : (s : ℕ) (b : ℕ → Bool) (share : ℕ) → share < 2 ^ s → ((k : ℕ) → 2 ^ s ≤ k → b k ≡ false) → (k : ℕ) → 2 ^ s ≤ k → booked s b share k ≡ false
-booked_inside s b share l h k m = let q : k ≡ share → ⊥ = λ e. omega arith in ap (λ x. cond x (cond (ltb share (2 ^ s)) true (b k)) (b k)) (ne_eqb k share q) ∙ h k m
+-- a tally's table tells which shares are booked, and its full sum is the permanent
+module _ {X : Type 0} {C : Coding X} {t : Tally X C} {b : ℕ → Bool} (s : Stands t b) where
+  pub all_told : AllBooked t.sizes.splits (λ k. is_booked (get_or t.table.entries k None)) → AllBooked t.sizes.splits b
+  all_told all k l = sym (s.marked k) ∙ all k l
 
-pub struck_inside : (s : ℕ) (b : ℕ → Bool) (share : ℕ) → share < 2 ^ s → ((k : ℕ) → 2 ^ s ≤ k → b k ≡ false) → (k : ℕ) → 2 ^ s ≤ k → struck b share k ≡ false
-struck_inside s b share l h k m = let q : k ≡ share → ⊥ = λ e. omega arith in ap (λ x. cond x false (b k)) (ne_eqb k share q) ∙ h k m
+  pub all_entered : AllBooked t.sizes.splits b → AllBooked t.sizes.splits (λ k. is_booked (get_or t.table.entries k None))
+  all_entered all k l = s.marked k ∙ all k l
 
--- what holds of each number of a count
-each_counting : (P : ℕ → Type 0) (a m : ℕ) → ((k : ℕ) → a ≤ k → k < a + m → P k) → Each P (range_with_len a m)
-each_counting P a zero h = tt
-each_counting P a (suc m) h = (h a (omega arith) (omega arith), each_counting P (a + 1) m (λ k low high. h k (omega arith) (omega arith)))
+  pub missing_told : Missing t.sizes.splits (λ k. is_booked (get_or t.table.entries k None)) → Missing t.sizes.splits b
+  missing_told (k, l, e) = (k, l, sym (s.marked k) ∙ e)
 
-entry_booked : (c : Bool) (d : ℕ) → is_booked (entry_of c d) ≡ c
-entry_booked true d = refl
-entry_booked false d = refl
-
--- a table that holds what the calls say tells which shares are booked, and its full sum is the permanent
-module _ (A : ℕ → ℕ → ℕ) (n s : ℕ) (within : s ≤ n) (few : 2 ^ s ≤ 64) (entries : List Entry) (b : ℕ → Bool) (h : Holds entries b (share_digit A n s)) where
-  tells : (k : ℕ) → k < 2 ^ s → is_booked (get_or entries k Empty) ≡ b k
-  tells k l = ap is_booked (h k (omega arith)) ∙ entry_booked (b k) (share_digit A n s k)
-
-  pub all_told : AllBooked s (λ k. is_booked (get_or entries k Empty)) → AllBooked s b
-  all_told all k l = sym (tells k l) ∙ all k l
-
-  pub all_entered : AllBooked s b → AllBooked s (λ k. is_booked (get_or entries k Empty))
-  all_entered all k l = tells k l ∙ all k l
-
-  pub missing_told : Missing s (λ k. is_booked (get_or entries k Empty)) → Missing s b
-  missing_told (k, l, e) = (k, l, sym (tells k l) ∙ e)
-
-  pub total_permanent : AllBooked s b → total_of s entries ≡ permanent A n % 3
+  pub total_permanent : AllBooked t.sizes.splits b → total_of t.sizes.splits t.table.entries ≡ permanent (matrix C t.rows.now) t.sizes.size % 3
   total_permanent all =
-      ap (λ x. x % 3) (over_each ◌+◌ 0 _ _ (range_with_len 0 (2 ^ s)) (each_counting (λ k. digit_of (get_or entries k Empty) ≡ share_digit A n s k) 0 (2 ^ s)
-      (λ k _ l. let m : k < 2 ^ s = omega arith in ap digit_of (h k (omega arith) ∙ ap (λ c. entry_of c (share_digit A n s k)) (all k m)))))
-      ∙ shares (term A n) n s within ∙ formula A n
+      let A = matrix C t.rows.now in
+      ap (λ x. x % 3) (over_count ◌+◌ 0 (2 ^ t.sizes.splits) (λ k l. digit_held (get_or t.table.entries k None) (share_digit A t.sizes.size t.sizes.splits k) (s.marked k ∙ all k l) (t.digits k)))
+      ∙ shares (term A t.sizes.size) t.sizes.size t.sizes.splits t.sizes.within ∙ formula A t.sizes.size
 
-each_all : {X : Type 0} (P : X → Type 0) (xs : List X) → ((x : X) → P x) → Each P xs
-each_all P [] f = tt
-each_all P (x ∷ xs) f = (f x, each_all P xs f)
+-- what the first 2 ^ s entries tell is what the table tells
+pub first_told : (s : ℕ) {m : ℕ} (entries : List (Option ℕ)) → m ≡ 2 ^ s → m ≤ length entries → (r : Result ℕ Refusal)
+    → MatchResult r
+    (λ d. ((k : ℕ) → k < length (take m entries) → is_booked (get_or (take m entries) k None) ≡ true)
+    × (d ≡ sum_over (λ k. digit_of (get_or (take m entries) k None)) (range_with_len 0 (length (take m entries))) % 3))
+    (λ e. (number_of e ≡ 15) × ((k : ℕ) × (k < length (take m entries)) × (is_booked (get_or (take m entries) k None) ≡ false)))
+    → MatchResult r
+    (λ d. AllBooked s (λ k. is_booked (get_or entries k None)) × (d ≡ total_of s entries))
+    (λ e. (number_of e ≡ 15) × Missing s (λ k. is_booked (get_or entries k None)))
+first_told s {m} entries e h r told =
+    let long : length (take m entries) ≡ 2 ^ s = length-take-le m entries h ∙ e in
+    MatchResult-weaker r told
+    (λ d (all, is). (
+      λ k l. ap is_booked (sym (get_or-take m entries k None (omega arith))) ∙ all k (omega arith),
+      is ∙ ap (λ n. sum_over (λ k. digit_of (get_or (take m entries) k None)) (range_with_len 0 n) % 3) long
+          ∙ ap (λ x. x % 3) (over_count ◌+◌ 0 (2 ^ s) (λ k l. ap digit_of (get_or-take m entries k None (omega arith)))),
+    ))
+    (λ f (is, (k, l, none)). (is, (k, omega arith, ap is_booked (sym (get_or-take m entries k None (omega arith))) ∙ none)))
+
+-- what the table tells is what the calls tell, and its full sum is the permanent
+pub result_stands : {X : Type 0} {C : Coding X} {t : Tally X C} {b : ℕ → Bool} → Stands t b → (r : Result ℕ Refusal)
+    → MatchResult r
+    (λ d. AllBooked t.sizes.splits (λ k. is_booked (get_or t.table.entries k None)) × (d ≡ total_of t.sizes.splits t.table.entries))
+    (λ e. (number_of e ≡ 15) × Missing t.sizes.splits (λ k. is_booked (get_or t.table.entries k None)))
+    → MatchResult r
+    (λ d. AllBooked t.sizes.splits b × (d ≡ permanent (matrix C t.rows.now) t.sizes.size % 3))
+    (λ e. (number_of e ≡ 15) × Missing t.sizes.splits b)
+result_stands s r told =
+    MatchResult-weaker r told (λ d h. (all_told s h.0, h.1 ∙ total_permanent s (all_told s h.0))) (λ e h. (h.0, missing_told s h.1))
 
 -- the permanent looks at the first n rows alone
 pub permanent_same : (A B : ℕ → ℕ → ℕ) (n : ℕ) → ((i c : ℕ) → i < n → A i c ≡ B i c) → permanent A n ≡ permanent B n
 permanent_same A B n same =
-    over_each ◌+◌ 0 _ _ (arrangements (range_with_len 0 n)) (each_all _ (arrangements (range_with_len 0 n)) (λ p. over_each ◌*◌ 1 _ _ (range_with_len 0 n)
-    (each_counting (λ i. A i (get_or p i 0) ≡ B i (get_or p i 0)) 0 n (λ i _ l. same i (get_or p i 0) (omega arith)))))
+    ap (λ f. sum_over f (arrangements (range_with_len 0 n))) (fun_ext (λ p. over_count ◌*◌ 1 n (λ i l. same i (get_or p i 0) l)))
+
+-- the digit of a share looks at the first n rows alone
+share_same : (A B : ℕ → ℕ → ℕ) (n s k : ℕ) → ((i c : ℕ) → i < n → A i c ≡ B i c) → share_digit A n s k ≡ share_digit B n s k
+share_same A B n s k same =
+    ap (λ f. sum_over f (share n s k) % 3) (fun_ext (λ i. ap (λ p. sign (n + i) * p) (ap (λ f. product_over f (range_with_len 0 n))
+    (fun_ext (λ c. over_count ◌+◌ 0 n (λ j l. ap (λ x. bit j (gray_code i) * x) (same j c l)))))))
+
+pub share_of_first : {X : Type 0} (C : Coding X) (rows : List X) (n s k : ℕ) → n < length rows
+    → share_digit (matrix C (take n rows)) (length (take n rows)) s k ≡ share_digit (matrix C rows) n s k
+share_of_first C rows n s k h =
+    ap (λ m. share_digit (matrix C (take n rows)) m s k) (length-take-le n rows (omega arith))
+    ∙ share_same _ _ n s k (λ i c l.
+    ap (λ vs. value (get_or vs i (zeros C.field) c)) (sym (take-map C.meant n rows))
+    ∙ ap (λ v. value (v c)) (get_or-take n (map C.meant rows) i (zeros C.field) l))
+
+-- a row among the first n that has not P
+pub one_short : {X : Type 0} (P : X → Type 0) (rows : List X) (n : ℕ) → n < length rows
+    → (i : ℕ) × (i < length (take n rows)) × HoldsAt (λ x. P x → ⊥) (take n rows) i → AllWithin P rows 0 n → ⊥
+one_short P [] n h one all = absurd (omega arith)
+one_short P (x ∷ rows) n h (i, l, none) all =
+    let m : i < n = omega (arith, length-take-le n (x ∷ rows) (omega arith)) in
+    none x (subst P (sym (get_or-take n (x ∷ rows) i x m)) (all i x (omega arith) m))

@@ -7,6 +7,7 @@ use Rattle.algebra.specs.Modulo.{f3, mod_mul_mod, mul_mod_mod}
 use Rattle.algebra.specs.Vector.{Vector, zeros, joined, product}
 use Rattle.algebra.specs.Permanent.{product_over}
 use Rattle.algebra.proofs.Over.{over_more}
+use Rattle.coding.specs.declared.vectors.Coding.{Ghosts as Coding}
 use Rattle.tally.specs.Matrix.{matrix}
 
 module _ (F : Field) (three : F ≡ f3) where
@@ -33,5 +34,5 @@ module _ (F : Field) (three : F ≡ f3) where
       ∙ ap (λ p. p % 3) (ap (λ k. product_over f (range_with_len 0 n) * f k) (sym (zero-add n)) ∙ sym (over_more ◌*◌ 1 mul_assoc one-mul mul-one f 0 n))
 
 -- the digits of a row that code reads are those of the matrix
-pub row_value : (F : Field) {X : Type 0} (meant : X → Vector F) (rows : List X) (i : ℕ) (x : X) → i < length rows → x ≡ get_or rows i x → (c : ℕ) → value (meant x c) ≡ matrix F meant rows i c
-row_value F meant rows i x h e c = ap (λ y. value (meant y c)) e ∙ ap (λ f. value (f c)) (sym (get_or-map meant rows i x (zeros F) h))
+pub row_value : {X : Type 0} (C : Coding X) (rows : List X) (i : ℕ) (x : X) → i < length rows → x ≡ get_or rows i x → (c : ℕ) → value (C.meant x c) ≡ matrix C rows i c
+row_value C rows i x h e c = ap (λ y. value (C.meant y c)) e ∙ ap (λ f. value (f c)) (sym (get_or-map C.meant rows i x (zeros C.field) h))

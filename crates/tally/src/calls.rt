@@ -7,12 +7,13 @@ ghost use Rattle.coding.specs.Refusals.{number_of};
 ghost use Rattle.tally.specs.Booking.{AllBooked, Missing};
 ghost use Rattle.tally.specs.Calls.{after_call, booked_by};
 ghost use Rattle.tally.specs.Matrix.{matrix};
-ghost use Rattle.tally.specs.Stands.{Stands, Kept, Makes, NotMade};
+ghost use Rattle.tally.specs.Makings.{Makes, NotMade};
+ghost use Rattle.tally.specs.Stands.{Stands, Kept};
 
 use crate::tallies::Tally;
 use coding::{Coding, Refusal, Ternary};
 
-// One call of a list.
+// One call of a list. Calls are values and no closures: what a list has booked is computed from the calls alone.
 #[derive(Clone, Copy)]
 pub enum Call {
     Work(u8),
@@ -20,7 +21,8 @@ pub enum Call {
     Result,
 }
 
-// Who is told how many calls of a run are done, after each. What it does with that is its own: no answer depends on it.
+// Who is told how many calls of a run are done, after each. What it does with that is its own: no answer depends on it. It
+// is a trait and no closure, which a function would have to require to be callable; no public function here requires anything.
 pub trait Watch {
     fn done(&mut self, calls: usize);
 }
@@ -35,8 +37,8 @@ impl Watch for Unwatched {
 
 // One call of a list. Its answer, or its refusal, is left.
 fn apply<C: Ternary>(tally: &mut Tally<'_, C>, call: Call)
-    ensures stands { (b : ℕ → Bool) → Stands C.Coding.field C.Coding.width C.Coding.meant tally.old b
-        → Stands C.Coding.field C.Coding.width C.Coding.meant tally.new (after_call tally.old.sizes.splits b call) }
+    ensures stands { (b : ℕ → Bool) → Stands tally.old b
+        → Stands tally.new (after_call tally.old.sizes.splits b call) }
     ensures kept { Kept tally.old tally.new }
 {
     match call {
@@ -54,12 +56,12 @@ fn apply<C: Ternary>(tally: &mut Tally<'_, C>, call: Call)
 
 // All calls of a list, in their order; the run goes on past refused ones.
 fn apply_all<C: Ternary, W: Watch>(tally: &mut Tally<'_, C>, calls: &[Call], watch: &mut W)
-    ensures stands { (b : ℕ → Bool) → Stands C.Coding.field C.Coding.width C.Coding.meant tally.old b
-        → Stands C.Coding.field C.Coding.width C.Coding.meant tally.new (fold (after_call tally.old.sizes.splits) b calls.now) }
+    ensures stands { (b : ℕ → Bool) → Stands tally.old b
+        → Stands tally.new (fold (after_call tally.old.sizes.splits) b calls.now) }
     ensures kept { Kept tally.old tally.new }
 {
-    for i in 0..calls.len() {
-        apply(tally, calls[i]);
+    for (i, call) in calls.iter().enumerate() {
+        apply(tally, *call);
         watch.done(i + 1);
     }
 }
@@ -75,12 +77,12 @@ pub fn result_after<C: Ternary, W: Watch>(
     watch: &mut W,
 ) -> Result<u8, Refusal>
     ensures answer { MatchResult result
-        (λ d. Makes C.Coding.field C.Coding.width C.Coding.meant size splits rows.old
+        (λ d. Makes C.Coding size splits rows.old
         × HoldsAt (λ x. C.Coding.meant x ≡ zeros C.Coding.field) rows.new size
         × AllBooked splits (booked_by splits calls.now)
-        × (d ≡ permanent (matrix C.Coding.field C.Coding.meant rows.old) size % 3))
-        (λ e. (NotMade C.Coding.field C.Coding.width C.Coding.meant size splits rows.old e × (rows.new ≡ rows.old))
-        ⊎ (Makes C.Coding.field C.Coding.width C.Coding.meant size splits rows.old × HoldsAt (λ x. C.Coding.meant x ≡ zeros C.Coding.field) rows.new size × (number_of e ≡ 15) × Missing splits (booked_by splits calls.now))) }
+        × (d ≡ permanent (matrix C.Coding rows.old) size % 3))
+        (λ e. (NotMade C.Coding size splits rows.old e × (rows.new ≡ rows.old))
+        ⊎ (Makes C.Coding size splits rows.old × HoldsAt (λ x. C.Coding.meant x ≡ zeros C.Coding.field) rows.new size × (number_of e ≡ 15) × Missing splits (booked_by splits calls.now))) }
     ensures memory { (k : ℕ) (d : C) → (k ≢ size) → slice_index_or rows.new k d ≡ slice_index_or rows.old k d }
 {
     let mut tally = Tally::make(rows, size, splits);

@@ -8,5 +8,6 @@ mod tables;
 mod tallies;
 
 pub use calls::{Call, Unwatched, Watch, result_after};
+pub use sizes::MOST_ROWS;
 pub use tables::Entry;
 pub use tallies::Tally;

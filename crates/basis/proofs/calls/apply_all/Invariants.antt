@@ -5,9 +5,9 @@ use Rattle.basis.specs.Stands.{Stands, Kept}
 use Rattle.basis.specs.Calls.{after_call}
 use Rattle.basis.proofs.calls.apply_all.Given as goal
 
-abbrev pub invariant-loop-i : goal.invariant-loop-i
-invariant-loop-i g l =
+abbrev pub invariant-loop-call : goal.invariant-loop-call
+invariant-loop-call g l =
     Kept l.initial.basis l.basis
-    × ((vs : List (Vector g.C.Coding.field)) → Stands g.C.Coding.field g.C.Coding.width g.C.Coding.meant g.C.Coding.canonical l.initial.basis vs
-    → Stands g.C.Coding.field g.C.Coding.width g.C.Coding.meant g.C.Coding.canonical l.basis (fold (after_call g.C.Coding.field g.C.Coding.width g.C.Coding.meant l.initial.basis.sizes.length) vs (take l.i l.calls))
+    × ((vs : List (Vector g.C.Coding.field)) → Stands g.C.Coding l.initial.basis vs
+    → Stands g.C.Coding l.basis (fold (after_call g.C.Coding l.initial.basis.sizes.length) vs (take l.call-index l.calls))
     × (drop l.initial.basis.sizes.length l.scratch ≡ drop l.initial.basis.sizes.length l.initial.scratch))

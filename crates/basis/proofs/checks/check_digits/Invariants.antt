@@ -5,5 +5,5 @@ use Rattle.basis.proofs.checks.check_digits.Given as goal
 
 abbrev pub invariant-loop-i : goal.invariant-loop-i
 invariant-loop-i g l =
-    (take l.i l.output ≡ check_digits_of g.C.Coding.field g.C.Coding.width g.C.Coding.meant (take l.i l.rows) (g.C.Coding.meant l.vector))
+    (take l.i l.output ≡ check_digits_of g.C.Coding (take l.i l.rows) (g.C.Coding.meant l.vector))
     × (drop l.i l.output ≡ drop l.i l.initial.output)

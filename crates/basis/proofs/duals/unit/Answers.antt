@@ -1,9 +1,9 @@
 -- Zero with one digit changed to 1.
-use Rattle.basis.proofs.Freely.{unit_is}
+use Rattle.std.proofs.Common.{ap, ◌∙◌}
+use Rattle.basis.proofs.Freely.{unit_or}
 use Rattle.basis.proofs.duals.unit.Goals as goal
 
-pub returns-in-Ok : goal.returns-in-Ok
-returns-in-Ok g c = record {
-  digits = λ _. unit_is g.C.Coding.field (g.C.Coding.meant c.in-Ok.vector) (g.C.Coding.meant c.zero.result) c.args.place c.zero.ensures.digits c.in-Ok.ensures.2;
-  stored = c.in-Ok.ensures.3;
-}
+pub returns-clause-digits : goal.returns-clause-digits
+returns-clause-digits g c h k =
+    ap (λ x. g.C.Coding.meant x k) c.unwrap_or.ensures
+    ∙ unit_or g.C.Coding c.args.place c.change.result c.zero.result c.zero-2.result c.zero.ensures.digits c.change.ensures h k

@@ -6,8 +6,8 @@ use Rattle.algebra.specs.Space.{less, times}
 use Rattle.basis.proofs.Placing.{changed_more}
 use Rattle.basis.proofs.rows.clear_place.Goals as goal
 
-pub loop-i-preserved : goal.loop-i-preserved
-loop-i-preserved g c =
+pub loop-row-preserved : goal.loop-row-preserved
+loop-row-preserved g c =
     let t = changed_more g.C.Coding.meant (λ x. less g.C.Coding.field (g.C.Coding.meant x) (times g.C.Coding.field (g.C.Coding.meant x c.args.place) (g.C.Coding.meant c.args.by)))
-    c.args.rows.now c.loop-i.rows c.loop-i.i c.index-rows-i.result c.cleared.result (omega arith) c.loop-i.auto.rows c.index-rows-i.is c.loop-i.invariant.0 c.loop-i.invariant.1 (fun_ext c.cleared.ensures.digits) in
-    (t.0, t.1, AllWithin-more_set c.loop-i.rows c.loop-i.i c.cleared.result (omega arith) g.C.Coding.canonical c.loop-i.invariant.2 c.cleared.ensures.stored)
+    c.args.rows.now c.loop-row.rows c.loop-row.row-index c.row-item.result c.cleared.result (omega arith) c.loop-row.auto.rows c.loop-row.invariant.0 c.loop-row.invariant.1 (fun_ext c.cleared.ensures.digits) in
+    (t.0, t.1, AllWithin-more_set c.loop-row.rows c.loop-row.row-index c.cleared.result (omega arith) g.C.Coding.canonical c.loop-row.invariant.2 c.cleared.ensures.stored)

@@ -15,12 +15,12 @@ bounds-output-0 g c = let h = room_some g.C.Coding.field c.args.n (length c.args
 
 pub loop-y-init : goal.loop-y-init
 loop-y-init g c =
-    begun g.C.Coding.field g.C.Coding.meant g.C.Coding.canonical c.args.n c.zero-x.result c.args.output.now (room g c) c.zero-x.ensures.digits c.zero-x.ensures.stored
+    begun g.C.Coding c.args.n c.zero-x.result c.args.output.now (room g c) c.zero-x.ensures.digits c.zero-x.ensures.stored
 
-never_refused : (g : _) (c : goal.After-from_residual g) → ⊥
+never_refused : (g : _) (c : goal.After-from_residual-in_err-y g) → ⊥
 never_refused g c =
     elim c.in_err-y.ensures [
-      | inl r ↦ elim r.1 [ inl e ↦ c.if-n-eq0.false e | inr l ↦ omega (arith, c.width.ensures, c.if-n-width.false) ]
+      | inl r ↦ elim r.1 [ inl e ↦ omega (arith, e, c.in_ok-check_length.ensures.some) | inr l ↦ omega (arith, c.width.ensures, c.in_ok-check_length.ensures.most) ]
       | inr r ↦ r.2 c.loop-y.invariant.long
     ]
 

@@ -1,25 +1,20 @@
-use Rattle.std.proofs.Common.{◌≡◌, ℕ, suc, ◌+◌, ◌≤◌, eqb, ◌≢◌, get_or, take, set, count_by, sym, refl, ap, ◌∙◌, subst, arith, length-take, take_all, rules, below_more}
-use Rattle.std.proofs.lemmas.List.{drop-set-lt, get_or-set_same, get_or-set_other}
+use Rattle.std.proofs.Common.{◌≡◌, ℕ, suc, ◌+◌, ◌≤◌, eqb, ◌++◌, length, get_or, take, drop, set, count_by, sym, refl, ap, ◌∙◌, subst, arith, length-take, take_all, rules}
+use Rattle.std.proofs.lemmas.List.{drop-set-lt, drop_at, get_or_append_left, length-take-le}
 use Rattle.std.proofs.lemmas.List.Sums.{count_by-le-length}
 use Rattle.algebra.specs.Vector.{weight}
 use Rattle.coding.proofs.Counting.{weight_most, count_more}
 use Rattle.coding.proofs.weights.count_weights.Goals as goal
 
-pub loop-i-init : goal.loop-i-init
-loop-i-init g c = (λ k h. absurd (omega arith), refl)
-
-pub loop-i-preserved : goal.loop-i-preserved
-loop-i-preserved g c =
-    let i = c.loop-i.i in
-    let counts = c.loop-i.counts in (
-      below_more _ _
-          (λ k h. let ne : k ≢ i = omega arith in get_or-set_other counts i k 0 0 ne ∙ c.loop-i.invariant.0 k h)
-          (get_or-set_same counts i 0 0 (omega arith)),
-      drop-set-lt (suc g.C.Coding.width) counts i 0 (omega (arith, c.width-width.ensures)) ∙ c.loop-i.invariant.1,
-    )
-
 pub loop-row-init : goal.loop-row-init
-loop-row-init g c = (λ j h. c.loop-i.invariant.0 j (omega (arith, c.width-width.ensures)), refl)
+loop-row-init g c =
+    let W = c.width-width.result in
+    let zeros = c.fill.new.self in
+    let rest = drop (W + 1) c.args.counts.now in
+    let past : W + 1 ≡ suc g.C.Coding.width = omega (arith, c.width-width.ensures) in
+    let long : length zeros ≡ W + 1 = c.fill.ensures.len ∙ length-take-le (W + 1) c.args.counts.now (omega arith) in (
+      λ j h. get_or_append_left zeros rest 0 j (omega (arith, long, c.width-width.ensures)) ∙ c.fill.ensures.clones j 0 (omega (arith, c.fill.ensures.len, long, c.width-width.ensures)) refl,
+      subst (λ (m : ℕ). drop m (zeros ++ rest) ≡ drop m c.args.counts.now) past (drop_at zeros rest (W + 1) long),
+    )
 
 pub offset_bounds-counts-weight : goal.offset_bounds-counts-weight
 offset_bounds-counts-weight g c =
@@ -62,5 +57,5 @@ pub returns : goal.returns
 returns g c = record {
   room = omega (arith, c.width-width.ensures);
   counts = λ i h. c.loop-row.invariant.0 i h ∙ ap (count_by (λ x. eqb (weight g.C.Coding.field g.C.Coding.width (g.C.Coding.meant x)) i)) (take_all _ _ c.loop-row-test.false);
-  rest = c.loop-row.invariant.1 ∙ c.loop-i.invariant.1;
+  rest = c.loop-row.invariant.1;
 }

@@ -4,8 +4,8 @@ use Rattle.jobs.proofs.Lines.{run_begins, run_ends}
 use Rattle.jobs.proofs.normals.form.Goals as goal
 
 pub returns : goal.returns
-returns g c names lines d wide room =
-    let begun = run_begins g.C.Coding.field g.C.Coding.width g.C.Coding.meant g.C.Coding.canonical c.args.sheet.now names lines d wide c.names.result _ c.make-basis.result _ c.names.ensures room c.make-basis.ensures.made in
+returns g c wide room =
+    let begun = run_begins g.C.Coding c.args.sheet.now wide c.names.result _ c.make-basis.result _ c.names.ensures room c.make-basis.ensures.made in
     let past : c.args.sheet.now.lines ≤ c.loop-number.number = omega (arith, c.lines-number-end.ensures) in
-    let ends = run_ends g.C.Coding.field g.C.Coding.width g.C.Coding.meant g.C.Coding.canonical c.args.sheet.now names lines d wide c.loop-number.number c.loop-number.basis c.args.end c.rank.result past (c.loop-number.invariant.1 names lines d wide begun) c.rank.ensures in
+    let ends = run_ends g.C.Coding c.args.sheet.now wide c.loop-number.number c.loop-number.basis c.end.result c.rank.result past (c.loop-number.invariant.1 wide begun) c.rank.ensures in
     search rules

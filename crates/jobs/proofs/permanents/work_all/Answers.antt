@@ -7,6 +7,6 @@ use Rattle.jobs.proofs.permanents.work_all.Goals as goal
 
 pub returns : goal.returns
 returns g c m =
-    all_worked g.C.Coding.field g.C.Coding.width g.C.Coding.meant c.args.size c.args.rows.now m
+    all_worked g.C.Coding c.args.size c.args.rows.now m
     c.most_splits.result c.most_splits.ensures.0 c.most_splits.ensures.1 c.all_shares-calls.result c.all_shares-calls.ensures
     (HoldsAt (λ x. g.C.Coding.meant x ≡ zeros g.C.Coding.field) c.result_after.new.rows c.args.size) (c.result_after.new.rows ≡ c.args.rows.now) c.result_after.result c.result_after.ensures.answer

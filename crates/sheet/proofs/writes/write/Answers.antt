@@ -1,87 +1,87 @@
 -- The checks give the refusals in their order; each turn of the loop puts one value line after those before it.
-use Rattle.std.proofs.Common.{◌+◌, ◌*◌, ◌≤◌, ◌++◌, length, drop, sym, refl, ap, add-mul, one-mul, zero-mul, arith, length-append, length-drop, rules}
-use Rattle.sheet.proofs.Puts.{put_none}
-use Rattle.sheet.proofs.Bodies.{put_body_more, refused_beyond, refused_long, refused_room, refused_width, row_room, wrote}
+use Rattle.std.proofs.Common.{◌≡◌, ℕ, ◌+◌, ◌*◌, ◌<◌, ◌≤◌, List, length, Some, None, Err, Option, MatchOption, refl, inl, inr, arith}
+use Rattle.std.specs.Option.{ok_or}
+use Rattle.std.proofs.lemmas.Option.{MatchOption-at_none, MatchOption-at_some}
+use Rattle.std.proofs.lemmas.Result.{err_from_is_err_and}
+use Rattle.coding.specs.declared.refusals.Refusal.TheVariants.{TextTooLong}
+use Rattle.sheet.specs.Writes.{Heads}
+use Rattle.sheet.proofs.Bodies.{put_more, refused_beyond, refused_long, refused_room, refused_width, wrote}
 use Rattle.sheet.proofs.writes.write.Goals as goal
 
-pub returns-then-names-width : goal.returns-then-names-width
-returns-then-names-width g c =
-    let found = c.in-Some.ensures in (
+-- the names that were counted
+headed : (head : List ℕ) (o : Option ℕ) (n : ℕ) → o ≡ Some n
+    → MatchOption o ((names : List (List ℕ)) → Heads names head → ⊥) (λ m. (names : List (List ℕ)) × Heads names head × (length names ≡ m))
+    → (names : List (List ℕ)) × Heads names head × (length names ≡ n)
+headed head o n is = MatchOption-at_some _ (λ m. (names : List (List ℕ)) × Heads names head × (length names ≡ m)) n is
+
+-- the size of the sheet
+sized : (whole : ℕ) (o : Option ℕ) (size : ℕ) → o ≡ Some size → MatchOption o (65000 < whole) (λ m. (m ≡ whole) × (m ≤ 65000)) → (size ≡ whole) × (size ≤ 65000)
+sized whole o size is = MatchOption-at_some _ (λ m. (m ≡ whole) × (m ≤ 65000)) size is
+
+too_long : (whole : ℕ) (o : Option ℕ) → o ≡ None → MatchOption o (65000 < whole) (λ m. (m ≡ whole) × (m ≤ 65000)) → 65000 < whole
+too_long whole o is = MatchOption-at_none (65000 < whole) (λ m. (m ≡ whole) × (m ≤ 65000)) is
+
+-- what stands in for an absent value
+refusal_is : {A E : Type 0} (o : Option A) (e d : E) → Err e ≡ ok_or o d → o ≡ None → e ≡ d
+refusal_is None e d h n = cc
+refusal_is (Some x) e d h n = cc
+
+pub returns-in_err-check_length : goal.returns-in_err-check_length
+returns-in_err-check_length g c =
+    let p = err_from_is_err_and c.from_residual-in_err-check_length.result c.from_residual-in_err-check_length.ensures.1 in
+    let found = headed c.args.head.now c.count_names.result c.in_ok-names.names c.in_ok-names.ensures.ok_part c.count_names.ensures in
+    rw (p.1, p.2, c.in_err-check_length.ensures.0) (
       refl {a = c.args.output.now},
-      refused_width g.C.Coding.field g.C.Coding.meant found.1 c.in-Some.names found.2 c.args.rows.now g.C.Coding.width (length c.args.output.now)
-          (omega (arith, c.width.ensures)),
+      refused_width g.C.Coding found.1 c.in_ok-names.names found.2 c.args.rows.now (length c.args.output.now)
+          (elim c.in_err-check_length.ensures.1 [
+            | inl none ↦ absurd (omega (arith, none, found.1.rule.some, found.2))
+            | inr over ↦ omega (arith, over, c.width.ensures)
+          ]),
     )
 
-pub returns-in_default-sheet_size : goal.returns-in_default-sheet_size
-returns-in_default-sheet_size g c =
-    let found = c.in-Some.ensures in (
+pub returns-in_err-size : goal.returns-in_err-size
+returns-in_err-size g c =
+    let p = err_from_is_err_and c.from_residual-in_err-size.result c.from_residual-in_err-size.ensures.1 in
+    let found = headed c.args.head.now c.count_names.result c.in_ok-names.names c.in_ok-names.ensures.ok_part c.count_names.ensures in
+    rw (p.1, p.2, refusal_is c.sheet_size.result c.in_err-size.field-0.0 TextTooLong c.in_err-size.ensures.value c.in_err-size.ensures.ok_part) (
       refl {a = c.args.output.now},
-      refused_long g.C.Coding.field g.C.Coding.meant found.1 c.in-Some.names found.2 c.args.rows.now g.C.Coding.width (length c.args.output.now)
-          (omega (arith, c.width.ensures)) c.in_default-sheet_size.ensures,
+      refused_long g.C.Coding found.1 c.in_ok-names.names found.2 c.args.rows.now (length c.args.output.now)
+          (omega (arith, c.width.ensures, c.in_ok-check_length.ensures.most)) (too_long (length c.args.head.now + length c.args.rows.now * (2 * c.in_ok-names.names)) c.sheet_size.result c.in_err-size.ensures.ok_part c.sheet_size.ensures),
     )
 
-pub returns-then-output-size : goal.returns-then-output-size
-returns-then-output-size g c =
-    let found = c.in-Some.ensures in
-    let size = c.in-Some-sheet_size.ensures in (
+pub returns-in_err-check_room : goal.returns-in_err-check_room
+returns-in_err-check_room g c =
+    let p = err_from_is_err_and c.from_residual-in_err-check_room.result c.from_residual-in_err-check_room.ensures.1 in
+    let found = headed c.args.head.now c.count_names.result c.in_ok-names.names c.in_ok-names.ensures.ok_part c.count_names.ensures in
+    let n = c.in_ok-names.names in
+    let size = sized (length c.args.head.now + length c.args.rows.now * (2 * n)) c.sheet_size.result c.in_ok-size.size c.in_ok-size.ensures.ok_part c.sheet_size.ensures in
+    rw (p.1, p.2, c.in_err-check_room.ensures.0) (
       refl {a = c.args.output.now},
-      refused_room g.C.Coding.field g.C.Coding.meant found.1 c.in-Some.names found.2 c.args.rows.now g.C.Coding.width (length c.args.output.now)
-          (omega (arith, c.width.ensures)) size.0 size.1 c.if-output-size.true,
+      refused_room g.C.Coding found.1 n found.2 c.args.rows.now (length c.args.output.now)
+          (omega (arith, c.width.ensures, c.in_ok-check_length.ensures.most)) size.0 size.1 c.in_err-check_room.ensures.1,
     )
 
 pub returns-then-not-all_long : goal.returns-then-not-all_long
 returns-then-not-all_long g c =
-    let found = c.in-Some.ensures in
-    let size = c.in-Some-sheet_size.ensures in (
+    let found = headed c.args.head.now c.count_names.result c.in_ok-names.names c.in_ok-names.ensures.ok_part c.count_names.ensures in
+    let n = c.in_ok-names.names in
+    let size = sized (length c.args.head.now + length c.args.rows.now * (2 * n)) c.sheet_size.result c.in_ok-size.size c.in_ok-size.ensures.ok_part c.sheet_size.ensures in (
       refl {a = c.args.output.now},
-      refused_beyond g.C.Coding.field g.C.Coding.meant found.1 c.in-Some.names found.2 c.args.rows.now g.C.Coding.width (length c.args.output.now)
-          (omega (arith, c.width.ensures)) size.0 size.1 c.if-output-size.false c.if-not-all_long.ensures,
+      refused_beyond g.C.Coding found.1 n found.2 c.args.rows.now (length c.args.output.now)
+          (omega (arith, c.width.ensures, c.in_ok-check_length.ensures.most)) size.0 size.1 c.in_ok-check_room.ensures c.if-not-all_long.ensures,
     )
 
-pub loop-row-init : goal.loop-row-init
-loop-row-init g c = (
-  sym (put_none (length c.args.head.now) (c.copy_from_slice.new.self ++ drop (length c.args.head.now) c.args.output.now)),
-  omega (arith, zero-mul (2 * c.in-Some.names)),
-)
-
-pub write_row-requires : goal.write_row-requires
-write_row-requires g c =
-    let found = c.in-Some.ensures in
-    let size = c.in-Some-sheet_size.ensures in
-    let more = row_room c.loop-row.row-index (length c.args.rows.now) (2 * c.in-Some.names) c.loop-row-test.true in
-    let long = length-append c.copy_from_slice.new.self (drop (length c.args.head.now) c.args.output.now) in
-    let copied = ap length c.copy_from_slice.ensures.after in
-    record {
-      some = omega (arith, found.1.rule.some, found.2);
-      room = omega (arith, more, size.0, long, copied, length-drop (length c.args.head.now) c.args.output.now, c.loop-row.invariant.1);
-    }
-
-pub overflow_add-place : goal.overflow_add-place
-overflow_add-place g c =
-    let size = c.in-Some-sheet_size.ensures in
-    let more = row_room c.loop-row.row-index (length c.args.rows.now) (2 * c.in-Some.names) c.loop-row-test.true in
-    let room : c.loop-row.place + 2 * c.in-Some.names ≤ 65000 = omega (arith, more, size.0, size.1, c.loop-row.invariant.1) in
-    search rules
-
-pub loop-row-preserved : goal.loop-row-preserved
-loop-row-preserved g c =
-    let found = c.in-Some.ensures in
-    let n = c.in-Some.names in
-    let head = c.args.head.now in
-    let copied = c.copy_from_slice.new.self in
-    let long = length-append copied (drop (length head) c.args.output.now) in (
-      put_body_more g.C.Coding.field g.C.Coding.meant n c.args.rows.now c.loop-row.row-index c.row-item.result
-          (omega (arith, found.1.rule.some, found.2)) c.loop-row-test.true c.row-item.is
-          (length head) c.loop-row.place (copied ++ drop (length head) c.args.output.now) c.loop-row.output c.write_row.new.output
-          (omega (arith, long, ap length c.copy_from_slice.ensures.after)) c.loop-row.invariant.1 c.loop-row.invariant.0 c.write_row.ensures,
-      omega (arith, c.loop-row.invariant.1, add-mul c.loop-row.row-index 1 (2 * n), one-mul (2 * n)),
-    )
+pub loop-number-preserved : goal.loop-number-preserved
+loop-number-preserved g c =
+    put_more g.C.Coding c.in_ok-names.names c.args.rows.now c.args.head.now c.args.output.now c.loop-number.number c.index-rows-number.result
+    c.loop-number-test.true c.index-rows-number.is c.loop-number.output c.write_row.new.output _ c.in_ok-check_length.ensures.some (omega arith) c.write_row.ensures c.loop-number.invariant
 
 pub returns : goal.returns
 returns g c =
-    let found = c.in-Some.ensures in
-    let size = c.in-Some-sheet_size.ensures in
-    wrote g.C.Coding.field g.C.Coding.meant found.1 c.in-Some.names found.2 c.args.rows.now
-    g.met.C.Ternary.three g.C.Coding.width c.args.output.now c.loop-row.output c.copy_from_slice.new.self c.in-Some-sheet_size.size c.loop-row.row-index
-    (omega (arith, c.width.ensures)) c.if-not-all_long.ensures size.0 size.1
-    c.copy_from_slice.ensures.after c.loop-row-test.false c.loop-row.invariant.0
+    let found = headed c.args.head.now c.count_names.result c.in_ok-names.names c.in_ok-names.ensures.ok_part c.count_names.ensures in
+    let n = c.in_ok-names.names in
+    let size = sized (length c.args.head.now + length c.args.rows.now * (2 * n)) c.sheet_size.result c.in_ok-size.size c.in_ok-size.ensures.ok_part c.sheet_size.ensures in
+    wrote g.C.Coding found.1 n found.2 c.args.rows.now
+    g.met.C.Ternary.three c.args.output.now c.loop-number.output c.in_ok-size.size c.loop-number.number
+    (omega (arith, c.width.ensures, c.in_ok-check_length.ensures.most)) c.if-not-all_long.ensures size.0 size.1
+    (omega (arith, c.loop-number-test.false, c.loop-number.auto.number-end)) c.loop-number.invariant

@@ -5,7 +5,8 @@ use Rattle.tally.specs.Stands.{Stands, Kept}
 use Rattle.tally.proofs.calls.apply_all.Given as goal
 
 abbrev pub invariant-loop-i : goal.invariant-loop-i
-invariant-loop-i g l =
-    Kept l.initial.tally l.tally
-    × ((b : ℕ → Bool) → Stands g.C.Coding.field g.C.Coding.width g.C.Coding.meant l.initial.tally b
-    → Stands g.C.Coding.field g.C.Coding.width g.C.Coding.meant l.tally (fold (after_call l.initial.tally.sizes.splits) b (take l.i l.calls)))
+invariant-loop-i g l = record {
+  kept : Kept l.initial.tally l.tally;
+  stands : (b : ℕ → Bool) → Stands l.initial.tally b
+      → Stands l.tally (fold (after_call l.initial.tally.sizes.splits) b (take l.i l.calls));
+}

@@ -7,8 +7,8 @@ use Rattle.codings.proofs.planes.PlanesCoding.distance.Goals as goal
 
 pub returns : goal.returns
 returns c =
-    let v : FullWords 64 c.read-v1.result.0 c.read-v1.result.1 = record { full = c.read-v1.ensures.full; fits1 = search rules; fits2 = search rules } in
-    let w : FullWords 64 c.read-w1.result.0 c.read-w1.result.1 = record { full = c.read-w1.ensures.full; fits1 = search rules; fits2 = search rules } in
+    let v : FullWords 64 c.full-v.result.v1 c.full-v.result.v2 = record { full = c.full-v.result.full; fits1 = search rules; fits2 = search rules } in
+    let w : FullWords 64 c.full-w.result.v1 c.full-w.result.v2 = record { full = c.full-w.result.full; fits1 = search rules; fits2 = search rules } in
     c.count.ensures.value
     ∙ distance_ones v w
-    ∙ ap₂ (distance f3 64) (fun_ext c.read-v1.ensures.digits) (fun_ext c.read-w1.ensures.digits)
+    ∙ ap₂ (distance f3 64) (fun_ext c.full-v.ensures) (fun_ext c.full-w.ensures)

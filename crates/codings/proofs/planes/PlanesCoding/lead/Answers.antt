@@ -13,8 +13,8 @@ use Rattle.codings.proofs.planes.PlanesCoding.lead.Goals as goal
 
 pub returns-then-some-eq0 : goal.returns-then-some-eq0
 returns-then-some-eq0 c = λ k.
-    let v : FullWords 64 c.read-v1.result.0 c.read-v1.result.1 = record { full = c.read-v1.ensures.full; fits1 = search rules; fits2 = search rules } in
-    sym (c.read-v1.ensures.digits k) ∙ lead_none v c.if-some-eq0.true k
+    let v : FullWords 64 c.full-v.result.v1 c.full-v.result.v2 = record { full = c.full-v.result.full; fits1 = search rules; fits2 = search rules } in
+    sym (c.full-v.ensures k) ∙ lead_none v c.if-some-eq0.true k
 
 -- the lead of the planes as read, with the digit that V2 tells there
 found : (meant : Vector f3) {v1 v2 : ℕ} → ((k : ℕ) → digits 64 v1 v2 k ≡ meant k) → FullWords 64 v1 v2 → 0 < bit_xor v1 v2
@@ -28,10 +28,10 @@ found meant {v1} {v2} same v some told e =
 
 pub returns-then-holds : goal.returns-then-holds
 returns-then-holds c =
-    let v : FullWords 64 c.read-v1.result.0 c.read-v1.result.1 = record { full = c.read-v1.ensures.full; fits1 = search rules; fits2 = search rules } in
-    found (meant_by c.args.self) c.read-v1.ensures.digits v (omega (arith, c.if-some-eq0.false)) true (sym c.holds.ensures ∙ c.if-holds.true)
+    let v : FullWords 64 c.full-v.result.v1 c.full-v.result.v2 = record { full = c.full-v.result.full; fits1 = search rules; fits2 = search rules } in
+    found (meant_by c.args.self) c.full-v.ensures v (omega (arith, c.if-some-eq0.false)) true (sym c.holds.ensures ∙ c.if-holds.true)
 
 pub returns-else-holds : goal.returns-else-holds
 returns-else-holds c =
-    let v : FullWords 64 c.read-v1.result.0 c.read-v1.result.1 = record { full = c.read-v1.ensures.full; fits1 = search rules; fits2 = search rules } in
-    found (meant_by c.args.self) c.read-v1.ensures.digits v (omega (arith, c.if-some-eq0.false)) false (sym c.holds.ensures ∙ c.if-holds.false)
+    let v : FullWords 64 c.full-v.result.v1 c.full-v.result.v2 = record { full = c.full-v.result.full; fits1 = search rules; fits2 = search rules } in
+    found (meant_by c.args.self) c.full-v.ensures v (omega (arith, c.if-some-eq0.false)) false (sym c.holds.ensures ∙ c.if-holds.false)

@@ -11,12 +11,11 @@ returns-in-0 c = (
 )
 
 pub returns-in-1 : goal.returns-in-1
-returns-in-1 c =
-    let stored = c.stored.ensures.stored c.read-v1.ensures.full in (
-      omega arith,
-      λ k. c.stored.ensures.digits k ∙ c.read-v1.ensures.digits k ∙ by_one c.in-1.is (meant_by c.args.self k),
-      stored,
-    )
+returns-in-1 c = (
+  omega arith,
+  λ k. c.stored.ensures.digits k ∙ c.full.ensures k ∙ by_one c.in-1.is (meant_by c.args.self k),
+  c.stored.ensures.stored,
+)
 
 pub returns-in-2 : goal.returns-in-2
 returns-in-2 c = (

@@ -7,5 +7,5 @@ use Rattle.codings.proofs.planes.PlanesCoding.weight.Goals as goal
 
 pub returns : goal.returns
 returns c =
-    let v : FullWords 64 c.read-v1.result.0 c.read-v1.result.1 = record { full = c.read-v1.ensures.full; fits1 = search rules; fits2 = search rules } in
-    c.count.ensures.value ∙ weight_ones v ∙ ap (weight f3 64) (fun_ext c.read-v1.ensures.digits)
+    let v : FullWords 64 c.full-v.result.v1 c.full-v.result.v2 = record { full = c.full-v.result.full; fits1 = search rules; fits2 = search rules } in
+    c.count.ensures.value ∙ weight_ones v ∙ ap (weight f3 64) (fun_ext c.full-v.ensures)

@@ -7,10 +7,10 @@ pub returns-then-self-low-ne0 : goal.returns-then-self-low-ne0
 returns-then-self-low-ne0 c =
     let x = c.args.self in
     let low = c.below-low in
-    let below : Low 64 c.args.n low.result = record { most = c.if-n-gt64.false; fits = low.type_inv; bits = low.ensures } in
+    let below : Low 64 c.args.n low.result = record { most = c.in_ok-check_length.ensures.most; fits = low.type_inv; bits = low.ensures } in
     inr (
       refl,
-      record { some = omega arith; most = below.most },
+      c.in_ok-check_length.ensures,
       not_long 64 x.magnitude x.sign (search rules) (search rules) below (omega (arith, c.if-self-low-ne0.true)),
     )
 
@@ -18,8 +18,8 @@ pub returns-then-twos-low-eq0 : goal.returns-then-twos-low-eq0
 returns-then-twos-low-eq0 c =
     let x = c.args.self in
     let low = c.below-low in
-    let below : Low 64 c.args.n low.result = record { most = c.if-n-gt64.false; fits = low.type_inv; bits = low.ensures } in (
-      record { some = omega arith; most = below.most },
+    let below : Low 64 c.args.n low.result = record { most = c.in_ok-check_length.ensures.most; fits = low.type_inv; bits = low.ensures } in (
+      c.in_ok-check_length.ensures,
       long_is 64 x.magnitude x.sign (search rules) (search rules) below c.if-self-low-ne0.false,
       last_is 64 x.magnitude x.sign (search rules) (search rules) below c.if-twos-low-eq0.true,
     )
@@ -28,8 +28,8 @@ pub returns : goal.returns
 returns c =
     let x = c.args.self in
     let low = c.below-low in
-    let below : Low 64 c.args.n low.result = record { most = c.if-n-gt64.false; fits = low.type_inv; bits = low.ensures } in (
-      record { some = omega arith; most = below.most },
+    let below : Low 64 c.args.n low.result = record { most = c.in_ok-check_length.ensures.most; fits = low.type_inv; bits = low.ensures } in (
+      c.in_ok-check_length.ensures,
       long_is 64 x.magnitude x.sign (search rules) (search rules) below c.if-self-low-ne0.false,
       (
         next_is 64 x.magnitude x.sign (search rules) (search rules) below (omega (arith, c.if-twos-low-eq0.false)),

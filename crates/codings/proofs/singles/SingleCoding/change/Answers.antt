@@ -9,17 +9,17 @@ use Rattle.codings.proofs.singles.SingleCoding.change.Goals as goal
 
 pub returns : goal.returns
 returns c =
-    let changed = c.in_ok-changed.ensures in
-    let fits : Long f3 32 (meant_by_planes c.in_ok-changed.changed) = λ k h.
+    let changed = c.in_ok-change.ensures in
+    let fits : Long f3 32 (meant_by_planes c.in_ok-change.field-0) = λ k h.
     changed.2 k
-    ∙ cond-false _ _ _ (ne_eqb k c.args.place (λ e. omega arith))
-    ∙ c.wide.ensures k
+    ∙ cond-false _ _ _ (ne_eqb k c.args.place (λ e. omega (arith, c.in_ok-check_place.ensures)))
+    ∙ c.from.ensures k
     ∙ digits_out 32 _ _ k h in (
-      c.if-place-ge32.false,
+      c.in_ok-check_place.ensures,
       changed.1,
       λ k.
           c.narrow.ensures.digits fits k
           ∙ changed.2 k
-          ∙ ap (λ x. cond (eqb k c.args.place) (of f3 c.args.digit) x) (c.wide.ensures k),
-      c.narrow.ensures.stored fits,
+          ∙ ap (λ x. cond (eqb k c.args.place) (of f3 c.args.digit) x) (c.from.ensures k),
+      c.narrow.ensures.stored,
     )

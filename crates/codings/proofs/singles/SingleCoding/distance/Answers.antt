@@ -9,5 +9,5 @@ use Rattle.codings.proofs.singles.SingleCoding.distance.Goals as goal
 pub returns : goal.returns
 returns c =
     c.distance.ensures
-    ∙ ap₂ (distance f3 64) (fun_ext c.wide.ensures) (fun_ext c.wide-2.ensures)
+    ∙ ap₂ (distance f3 64) (fun_ext c.from.ensures) (fun_ext c.from-2.ensures)
     ∙ joined_fewer ◌+◌ 0 0 add-zero 32 64 (lit≤ tt) _ (λ k h. ap₂ differing (digits_out 32 _ _ k h) (digits_out 32 _ _ k h))

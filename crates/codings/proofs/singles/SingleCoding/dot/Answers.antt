@@ -12,6 +12,6 @@ pub returns : goal.returns
 returns c =
     c.dot.ensures
     ∙ ap value (
-    ap₂ (dot f3 64) (fun_ext c.wide.ensures) (fun_ext c.wide-2.ensures)
+    ap₂ (dot f3 64) (fun_ext c.from.ensures) (fun_ext c.from-2.ensures)
     ∙ joined_fewer f3.add f3.nil f3.nil (λ x. f3.add_comm x f3.nil ∙ f3.nil-add x) 32 64 (lit≤ tt) _
     (λ k h. ap₂ f3.mul (digits_out 32 _ _ k h) (digits_out 32 _ _ k h) ∙ same_digit _ _ refl))

@@ -11,9 +11,9 @@ pub returns : goal.returns
 returns c =
     let scaled = c.in_ok-scaled.ensures in
     let d : Digit 3 = of f3 c.args.digit in
-    let fits : Long f3 32 (meant_by_planes c.in_ok-scaled.scaled) = λ k h.
-    scaled.1 k ∙ ap (f3.mul d) (c.wide.ensures k ∙ digits_out 32 _ _ k h) ∙ mul_nil f3 d in (
+    let fits : Long f3 32 (meant_by_planes c.in_ok-scaled.field-0) = λ k h.
+    scaled.1 k ∙ ap (f3.mul d) (c.from.ensures k ∙ digits_out 32 _ _ k h) ∙ mul_nil f3 d in (
       scaled.0,
-      λ k. c.narrow.ensures.digits fits k ∙ scaled.1 k ∙ ap (f3.mul d) (c.wide.ensures k),
-      c.narrow.ensures.stored fits,
+      λ k. c.narrow.ensures.digits fits k ∙ scaled.1 k ∙ ap (f3.mul d) (c.from.ensures k),
+      c.narrow.ensures.stored,
     )

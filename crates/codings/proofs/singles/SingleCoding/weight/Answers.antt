@@ -9,5 +9,5 @@ use Rattle.codings.proofs.singles.SingleCoding.weight.Goals as goal
 pub returns : goal.returns
 returns c =
     c.weight.ensures
-    ∙ ap (weight f3 64) (fun_ext c.wide.ensures)
+    ∙ ap (weight f3 64) (fun_ext c.from.ensures)
     ∙ joined_fewer ◌+◌ 0 0 add-zero 32 64 (lit≤ tt) _ (λ k h. ap (λ d. differing d f3.nil) (digits_out 32 _ _ k h))

@@ -10,8 +10,8 @@ pub returns : goal.returns
 returns c =
     either_way c.full_product.result
     (λ d h. (
-      record { some = h.0.some; most = omega arith },
-      h.1 ∙ ap (λ v. value (product f3 c.args.n v)) (fun_ext c.wide.ensures),
+      c.in_ok-check_length.ensures,
+      h.1 ∙ ap (λ v. value (product f3 c.args.n v)) (fun_ext c.from.ensures),
     ))
-    (λ e h. absurd (elim h.1 [ inl z ↦ omega arith | inr l ↦ omega arith ]))
+    (λ e h. absurd (elim h.1 [ inl z ↦ omega (arith, z, c.in_ok-check_length.ensures.some) | inr l ↦ omega (arith, l, c.in_ok-check_length.ensures.most) ]))
     c.full_product.ensures
