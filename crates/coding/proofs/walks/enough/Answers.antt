@@ -1,5 +1,5 @@
 -- Divided by 3 once for each place, the rows leave 0 exactly where they are fewer than 3 ^ n.
-use Rattle.std.proofs.Common.{◌≡◌, ℕ, ◌/◌, ◌^◌, ◌<◌, ◌≤◌, ltb, Decides, sym, ap, ◌∙◌, subst, one-mul, pow-suc, le-div_iff_mul-le, div-one, add-one, arith, lit<}
+use Rattle.std.proofs.Common.{◌≡◌, ℕ, ◌/◌, ◌^◌, ◌<◌, ◌≤◌, ltb, Decides, sym, ap, ◌∙◌, subst, one-mul, pow-suc, le-div_iff_mul-le, add-one, arith, lit<}
 use native.Mathlib.Nat.{div-div-eq-div-mul, one-le-pow}
 use Rattle.std.proofs.lemmas.Bool.{ltb-true, lt-ltb}
 use Rattle.coding.proofs.walks.enough.Goals as goal
@@ -9,9 +9,6 @@ quotient_some m d h = (
   λ t. rw one-mul at ((le-div_iff_mul-le {x = 1} h).0 (ltb-true 0 (m / d) t)),
   λ l. lt-ltb 0 (m / d) ((le-div_iff_mul-le {x = 1} h).1 (rw one-mul l)),
 )
-
-pub loop-init : goal.loop-init
-loop-init c = sym (div-one c.args.rows)
 
 pub loop-preserved : goal.loop-preserved
 loop-preserved c =

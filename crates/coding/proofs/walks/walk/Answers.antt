@@ -1,5 +1,5 @@
 -- Each turn writes the successor of the row before it, at its position; no successor is refused on the way.
-use Rattle.std.proofs.Common.{◌^◌, ◌<◌, ◌≤◌, length, sym, refl, subst, inl, inr, arith, rules}
+use Rattle.std.proofs.Common.{◌^◌, ◌<◌, ◌≤◌, length, sym, refl, subst, arith, rules}
 use Rattle.std.proofs.lemmas.Option.{MatchOption-at_some, MatchOption-at_none}
 use Rattle.algebra.specs.Field.{Field}
 use Rattle.algebra.specs.Successor.{Last}
@@ -16,16 +16,6 @@ bounds-output-0 g c = let h = room_some g.C.Coding.field c.args.n (length c.args
 pub loop-y-init : goal.loop-y-init
 loop-y-init g c =
     begun g.C.Coding c.args.n c.zero-x.result c.args.output.now (room g c) c.zero-x.ensures.digits c.zero-x.ensures.stored
-
-never_refused : (g : _) (c : goal.After-from_residual-in_err-y g) → ⊥
-never_refused g c =
-    elim c.in_err-y.ensures [
-      | inl r ↦ elim r.1 [ inl e ↦ omega (arith, e, c.in_ok-check_length.ensures.some) | inr l ↦ omega (arith, c.width.ensures, c.in_ok-check_length.ensures.most) ]
-      | inr r ↦ r.2 c.loop-y.invariant.long
-    ]
-
-pub returns-in_err-y : goal.returns-in_err-y
-returns-in_err-y g c = absurd (never_refused g c)
 
 follows : (g : _) (c : goal.In-Some g)
     → Follows g.C.Coding.field c.args.n (g.C.Coding.meant c.loop-y.x) (g.C.Coding.meant c.in-Some.y)

@@ -1,20 +1,9 @@
-use Rattle.std.proofs.Common.{◌≡◌, ℕ, suc, ◌+◌, ◌≤◌, eqb, ◌++◌, length, get_or, take, drop, set, count_by, sym, refl, ap, ◌∙◌, subst, arith, length-take, take_all, rules}
-use Rattle.std.proofs.lemmas.List.{drop-set-lt, drop_at, get_or_append_left, length-take-le}
+use Rattle.std.proofs.Common.{◌≡◌, ℕ, suc, ◌+◌, ◌≤◌, eqb, get_or, take, set, count_by, sym, ◌∙◌, subst, arith, length-take, rules}
+use Rattle.std.proofs.lemmas.List.{drop-set-lt}
 use Rattle.std.proofs.lemmas.List.Sums.{count_by-le-length}
 use Rattle.algebra.specs.Vector.{weight}
 use Rattle.coding.proofs.Counting.{weight_most, count_more}
 use Rattle.coding.proofs.weights.count_weights.Goals as goal
-
-pub loop-row-init : goal.loop-row-init
-loop-row-init g c =
-    let W = c.width-width.result in
-    let zeros = c.fill.new.self in
-    let rest = drop (W + 1) c.args.counts.now in
-    let past : W + 1 ≡ suc g.C.Coding.width = omega (arith, c.width-width.ensures) in
-    let long : length zeros ≡ W + 1 = c.fill.ensures.len ∙ length-take-le (W + 1) c.args.counts.now (omega arith) in (
-      λ j h. get_or_append_left zeros rest 0 j (omega (arith, long, c.width-width.ensures)) ∙ c.fill.ensures.clones j 0 (omega (arith, c.fill.ensures.len, long, c.width-width.ensures)) refl,
-      subst (λ (m : ℕ). drop m (zeros ++ rest) ≡ drop m c.args.counts.now) past (drop_at zeros rest (W + 1) long),
-    )
 
 pub offset_bounds-counts-weight : goal.offset_bounds-counts-weight
 offset_bounds-counts-weight g c =
@@ -52,10 +41,3 @@ loop-row-preserved g c =
           (count_more weigh c.args.rows.now c.loop-row.row-index x c.loop-row-test.true c.row-item.is W counts (omega (arith, c.width-width.ensures)) low c.loop-row.invariant.0),
       drop-set-lt (suc W) counts c.weight-weight.result _ (omega (arith, low, c.weight-weight.ensures)) ∙ c.loop-row.invariant.1,
     )
-
-pub returns : goal.returns
-returns g c = record {
-  room = omega (arith, c.width-width.ensures);
-  counts = λ i h. c.loop-row.invariant.0 i h ∙ ap (count_by (λ x. eqb (weight g.C.Coding.field g.C.Coding.width (g.C.Coding.meant x)) i)) (take_all _ _ c.loop-row-test.false);
-  rest = c.loop-row.invariant.1;
-}

@@ -1,8 +1,8 @@
 use Rattle.codings.specs.SignWordsLemmas.{product_digits}
 use Rattle.codings.proofs.signs.SignsCoding.product.Goals as goal
 
-pub returns : goal.returns
-returns c =
+pub returns-clause-digits : goal.returns-clause-digits
+returns-clause-digits c =
     let x = c.args.self in
     let y = c.args.other in
-    record { digits = product_digits 64 x.magnitude x.sign y.magnitude y.sign; stored = tt }
+    product_digits 64 x.magnitude x.sign y.magnitude y.sign

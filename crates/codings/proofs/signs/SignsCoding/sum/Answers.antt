@@ -1,8 +1,8 @@
 use Rattle.codings.specs.SignWordsLemmas.{sum_digits}
 use Rattle.codings.proofs.signs.SignsCoding.sum.Goals as goal
 
-pub returns : goal.returns
-returns c =
+pub returns-clause-digits : goal.returns-clause-digits
+returns-clause-digits c =
     let x = c.args.self in
     let y = c.args.other in
-    record { digits = sum_digits 64 x.magnitude x.sign y.magnitude y.sign; stored = tt }
+    sum_digits 64 x.magnitude x.sign y.magnitude y.sign

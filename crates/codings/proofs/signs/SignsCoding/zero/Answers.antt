@@ -1,5 +1,5 @@
 use Rattle.codings.specs.SignWordsLemmas.{zero_digits}
 use Rattle.codings.proofs.signs.SignsCoding.zero.Goals as goal
 
-pub returns : goal.returns
-returns c = record { digits = zero_digits 64; stored = tt }
+pub returns-clause-digits : goal.returns-clause-digits
+returns-clause-digits c = zero_digits 64
