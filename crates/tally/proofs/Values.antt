@@ -20,9 +20,6 @@ module _ (F : Field) (three : F ≡ f3) where
   times_value : (a b : Digit F.size) → value (F.mul a b) ≡ (value a * value b) % 3
   times_value = subst (λ K. (a b : Digit K.size) → value (K.mul a b) ≡ (value a * value b) % 3) (sym three) (λ a b. refl)
 
-  pub below_three : (a : Digit F.size) → value a < 3
-  below_three = subst (λ K. (a : Digit K.size) → value a < 3) (sym three) (λ a. a.1)
-
   -- a product of digits, from numbers that they are modulo 3
   pub product_value : (n : ℕ) (v : Vector F) (f : ℕ → ℕ) → ((c : ℕ) → c < n → value (v c) ≡ f c % 3) → value (product F n v) ≡ product_over f (range_with_len 0 n) % 3
   unfolding joined
