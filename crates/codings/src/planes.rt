@@ -78,8 +78,11 @@ impl Coding for Planes {
         .stored()
     }
 
+    // The place is tested here and not by `check_place`: a loop over the digits, as in `is_long`, becomes a test of whole words.
     fn digit(self, place: usize) -> Result<u8, Refusal> {
-        check_place(place, 64)?;
+        if place >= 64 {
+            return Err(Refusal::NumberOutOfRange);
+        }
         if !words::holds(self.second, place) {
             Ok(2)
         } else if words::holds(self.first, place) {

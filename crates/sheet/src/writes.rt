@@ -6,7 +6,7 @@ ghost use Rattle.sheet.specs.Writes.{digits, Wrote, Refused};
 
 use crate::sheets::count_names;
 use crate::texts::LONGEST;
-use coding::{Refusal, Ternary, all_long, check_length, check_room, digit_at};
+use coding::{Refusal, Ternary, all_long, check_room, digit_at};
 
 // How many bytes a sheet has; absent where they are too many. The product may be too large for a usize.
 fn sheet_size(head: usize, rows: usize, names: usize) -> Option<usize>
@@ -42,7 +42,11 @@ pub fn write<C: Ternary>(head: &[u8], rows: &[C], output: &mut [u8]) -> Result<u
         × Refused C.Coding head.now rows.now (length output.old) (number_of e)) }
 {
     let names = count_names(head).ok_or(Refusal::BadNames)?;
-    check_length(names, C::width())?;
+    // The width alone is tested, and not by `check_length`: a names line has a name, and each place of a row is then seen to
+    // be one of the coding's.
+    if names > C::width() {
+        return Err(Refusal::LengthOutOfRange);
+    }
     let size = sheet_size(head.len(), rows.len(), names).ok_or(Refusal::TextTooLong)?;
     check_room(size, output.len())?;
     if !all_long(rows, names) {
