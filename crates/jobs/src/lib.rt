@@ -6,6 +6,7 @@ mod normals;
 mod permanents;
 mod sizes;
 
+pub use coding::first_of as first_bytes;
 pub use faults::fault_lines;
 pub use normals::normal;
 pub use permanents::permanent;
